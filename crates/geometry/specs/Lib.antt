@@ -1,0 +1,4 @@
+pub mod Limits
+pub mod Sums
+pub mod Boxes
+pub mod Laws
