@@ -7,16 +7,12 @@ ghost use Rattle.geometry.specs.Boxes.{Fits, Stretch, Boxed, spanOn, withSpan,
 use crate::axis::Axis;
 use crate::cell::Cell;
 use crate::cuboid::Cuboid;
+use crate::limits::LEAST;
+use crate::limits::MOST_LINES;
+use crate::limits::SITE;
 use crate::scope::Scope;
 use crate::span::Span;
 use crate::units::Mm;
-
-// The edge of the site, the least size of a box on an axis, and the most rule lines of a book.
-pub const SITE: u32 = 16_384;
-
-pub const LEAST: u32 = 1;
-
-pub const MOST_LINES: u8 = 64;
 
 impl Span {
     // None where the stretch is too short or reaches out of the site.

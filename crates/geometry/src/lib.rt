@@ -5,6 +5,7 @@ mod boxes;
 pub mod cell;
 pub mod cuboid;
 pub mod laws;
+pub mod limits;
 pub mod scope;
 pub mod span;
 pub mod units;
