@@ -18,17 +18,12 @@ use Rattle.rows.specs.declared.size.Size.the-variants.{Fix, Float}
 use Rattle.rows.specs.declared.part.Part.{Part}
 use Rattle.rows.specs.declared.row.Segment.{Segment}
 use Rattle.rows.specs.declared.refusal.RowRefusal.the-variants.{SpareLeft}
-use Rattle.rows.specs.Sizes.{amount, lowest, highest}
+use Rattle.rows.specs.Sizes.{amount, highest, InRange}
 use Rattle.rows.specs.Apportion.{leftOver, floating}
 use Rattle.rows.specs.Rows.{sizes, fixedSum, floats, weightAt, weightSum, laid, thin, filled, shared, splitRow, lengthsOf}
 use Rattle.rows.proofs.Remainders.{left-few}
 
--- each length and weight in its range
-abbrev pub Sound : List Size → Type 0
-Sound [] = Unit {0}
-Sound (s ∷ ss) = ((lowest s ≤ amount s) × (amount s ≤ highest s)) × Sound ss
-
-pub parts-sound : (ps : List Part) → Sound (sizes ps)
+pub parts-sound : (ps : List Part) → InRange (sizes ps)
 parts-sound [] = tt
 parts-sound (p ∷ ps) = ((p .low, p .high), parts-sound ps)
 
@@ -68,7 +63,7 @@ filled-same f g ss h =
     cc
 
 -- the weights of sound parts
-pub sound-weights : (ss : List Size) → Sound ss → (k : ℕ) → k < length (floats ss) → (1 ≤ weightAt (floats ss) k) × (weightAt (floats ss) k ≤ 1000)
+pub sound-weights : (ss : List Size) → InRange ss → (k : ℕ) → k < length (floats ss) → (1 ≤ weightAt (floats ss) k) × (weightAt (floats ss) k ≤ 1000)
 sound-weights [] s k h = (omega arith, omega arith)
 sound-weights (Fix m ∷ ss) s k h = sound-weights ss (s .1) k h
 sound-weights (Float w ∷ ss) s zero h = s .0
@@ -82,7 +77,7 @@ floats-few (p ∷ ps) =
       | Float w ↦ omega (arith, floats-few ps)
     ])
 
-pub sum-positive : (ss : List Size) → Sound ss → 0 < length (floats ss) → 0 < weightSum (floats ss)
+pub sum-positive : (ss : List Size) → InRange ss → 0 < length (floats ss) → 0 < weightSum (floats ss)
 sum-positive ss s h =
     omega (arith, total-part (weightAt (floats ss)) (length (floats ss)) 0 h, sound-weights ss s 0 h .0)
 
@@ -107,7 +102,7 @@ abbrev pub Served : ℕ → List Size → Type 0
 Served L ss = (0 < length (floats ss)) ⊎ (L - fixedSum ss ≤ 0)
 
 -- no more is left than parts float
-pub left-fits : (L : ℕ) (ss : List Size) → Sound ss → Served L ss → leftIn L ss ≤ length (floats ss)
+pub left-fits : (L : ℕ) (ss : List Size) → InRange ss → Served L ss → leftIn L ss ≤ length (floats ss)
 left-fits L ss sound some =
     ⊎-elim
     (λ (a : 0 < length (floats ss)). omega (arith, left-few (L - fixedSum ss) (weightAt (floats ss)) (length (floats ss)) (sum-positive ss sound a)))

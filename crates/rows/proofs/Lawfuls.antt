@@ -21,12 +21,13 @@ use Rattle.rows.specs.declared.size.Size.the-variants.{Fix, Float}
 use Rattle.rows.specs.declared.row.Row.{Row}
 use Rattle.rows.specs.declared.refusal.RowRefusal.{RowRefusal}
 use Rattle.rows.specs.declared.refusal.RowRefusal.the-variants.{FixedTooLong, NothingFloats, Vanishes}
+use Rattle.rows.specs.Sizes.{InRange}
 use Rattle.rows.specs.Apportion.{tie, before, remainder}
 use Rattle.rows.specs.Rows.{fixedSum, floats, weightAt, weightSum, laid, thin, unlessThin, splitRow, told, toldOf}
 use Rattle.rows.specs.Laws.{Near, Shared, Thick, Lawful}
 use Rattle.rows.proofs.Orders.{before-strict, before-larger, tie-strict}
 use Rattle.rows.proofs.Remainders.{any-order, remainders-suffice}
-use Rattle.rows.proofs.Fills.{Sound, Served, lengthsIn, left-fits, sum-positive, split-filled}
+use Rattle.rows.proofs.Fills.{Served, lengthsIn, left-fits, sum-positive, split-filled}
 
 -- a row's lengths: the fixed ones and the floating ones
 laid-sum : (f : ℕ → ℕ) (k : ℕ) (ss : List Size) → sumOf (λ x. x) (laid f k ss) ≡ fixedSum ss + total (λ j. f (k + j)) (length (floats ss))
@@ -50,7 +51,7 @@ laid-shared R W f k (Float w ∷ ss) h =
     )
 
 -- where no part is thin, no length is
-laid-thick : (f : ℕ → ℕ) (k i : ℕ) (ss : List Size) → Sound ss → thin f k i ss ≡ None → Thick (laid f k ss)
+laid-thick : (f : ℕ → ℕ) (k i : ℕ) (ss : List Size) → InRange ss → thin f k i ss ≡ None → Thick (laid f k ss)
 laid-thick f k i [] s e = tt
 laid-thick f k i (Fix m ∷ ss) s e = (s .0 .0, laid-thick f k (i + 1) ss (s .1) e)
 laid-thick f k i (Float w ∷ ss) s e =
@@ -91,7 +92,7 @@ ways L ss xs e =
     (cases-lt L (fixedSum ss))
 
 -- the floating lengths add up to the rest, each near its share
-floating-laws : (L : ℕ) (ss : List Size) → Sound ss → 0 < length (floats ss)
+floating-laws : (L : ℕ) (ss : List Size) → InRange ss → 0 < length (floats ss)
     → (total (lengthsIn L ss) (length (floats ss)) ≡ L - fixedSum ss)
     × ((i : ℕ) → i < length (floats ss) → Near (L - fixedSum ss) (weightSum (floats ss)) (weightAt (floats ss) i) (lengthsIn L ss i))
 floating-laws L ss s p =
@@ -103,7 +104,7 @@ floating-laws L ss s p =
     remainders-suffice R w n pos (lengthsIn L ss)
     (any-order R w n pos (before tie n r) (before-strict tie n (tie-strict n) r) (before-larger tie n r))
 
-pub rows-lawful : (L : ℕ) (ss : List Size) (xs : List ℕ) → Sound ss → splitRow L ss ≡ Ok xs → Lawful L ss xs
+pub rows-lawful : (L : ℕ) (ss : List Size) (xs : List ℕ) → InRange ss → splitRow L ss ≡ Ok xs → Lawful L ss xs
 rows-lawful L ss xs s e =
     let f = lengthsIn L ss in
     let way = ways L ss xs e in
@@ -128,6 +129,6 @@ rows-lawful L ss xs s e =
     }
 
 -- the laws at what a call answered
-pub told-lawful : (L : ℕ) (ss : List Size) (r : Result Row RowRefusal) → Sound ss → toldOf r ≡ splitRow L ss → made r (λ row. Lawful L ss (told row))
+pub told-lawful : (L : ℕ) (ss : List Size) (r : Result Row RowRefusal) → InRange ss → toldOf r ≡ splitRow L ss → made r (λ row. Lawful L ss (told row))
 told-lawful L ss (Ok row) s e = rows-lawful L ss (told row) s (sym e)
 told-lawful L ss (Err x) s e = tt

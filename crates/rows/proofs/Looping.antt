@@ -13,11 +13,15 @@ use Rattle.rows.specs.declared.part.Part.{Part}
 use Rattle.rows.specs.Lengths.{lengthAt}
 use Rattle.rows.specs.Rows.{sizes}
 
+-- the elements left, where the next one was read as x
+pub next-read : {X : Type 0} (xs : List X) (i : ℕ) (d x : X) → i < length xs → x ≡ getD xs i d → drop i xs ≡ x ∷ drop (i + 1) xs
+next-read xs i d x l e = drop-more xs i d l ∙ ap (λ y. y ∷ drop (i + 1) xs) (sym e)
+
 -- what a recursion says of the parts left, where the next one was read and asks for s
 pub size-read : {Y : Type 0} (F : List Size → Y) (ps : List Part) (i : ℕ) (p : Part) (s : Size) → i < length ps → p ≡ getD ps i p → p .size ≡ s
     → F (sizes (drop i ps)) ≡ F (s ∷ sizes (drop (i + 1) ps))
 size-read F ps i p s l e is =
-    ap (λ qs. F (sizes qs)) (drop-more ps i p l ∙ ap (λ q. q ∷ drop (i + 1) ps) (sym e))
+    ap (λ qs. F (sizes qs)) (next-read ps i p p l e)
     ∙ ap (λ x. F (x ∷ sizes (drop (i + 1) ps))) is
 
 -- one more length written

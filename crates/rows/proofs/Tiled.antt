@@ -10,11 +10,12 @@ use lib.ListN.{length, replicate}
 use Rattle.std.proofs.shelf.Tests.{cases-lt, lt-ltb, le-ltb}
 use Rattle.geometry.specs.Sums.{total, count}
 use Rattle.geometry.proofs.Totals.{one, one-true, one-false, total-same}
+use Rattle.rows.specs.Sizes.{InRange}
 use Rattle.rows.specs.Apportion.{tie, comes, before, rankBy, whole, remainder, leftOver, extra, floating}
 use Rattle.rows.specs.Rows.{fixedSum, floats, weightAt, weightSum, filled, splitRow, tileSize}
 use Rattle.rows.specs.Tiles.{tileRank, tileLength}
 use Rattle.rows.proofs.Orders.{comes-equal}
-use Rattle.rows.proofs.Fills.{Sound, lengthsIn, left-fits, split-row}
+use Rattle.rows.proofs.Fills.{lengthsIn, left-fits, split-row}
 
 -- under the rule in force the tiles before tile i come first
 pub tie-rank : (n i : ℕ) → i < n → count (λ j. tie n j i) n ≡ tileRank n i
@@ -76,7 +77,7 @@ sum-tiles n =
     ∙ total-same (weightAt (floats (replicate n tileSize))) (λ _. 1) n (weigh-tiles n)
     ∙ omega (arith, total-const 1 n)
 
-pub tiles-sound : (n : ℕ) → Sound (replicate n tileSize)
+pub tiles-sound : (n : ℕ) → InRange (replicate n tileSize)
 tiles-sound zero = tt
 tiles-sound (suc n) = ((omega arith, omega arith), tiles-sound n)
 

@@ -1,5 +1,5 @@
 -- One part more.
-use Prim.Native.Nat.{ℕ, _≤_, _<_}
+use Prim.Native.Nat.{ℕ, _+_, _≤_, _<_}
 use mathlib.Core.Path.{_≡_}
 use mathlib.Core.Bool.{Bool, true, false}
 use mathlib.Core.List.{[], _∷_, _++_}
@@ -13,5 +13,5 @@ mostParts = 16
 
 -- the part stands at the end, or there was no room and nothing changed
 abbrev pub Pushed : Parts → Part → Parts → Bool → Type 0
-Pushed before p after true = (before .count < mostParts) × (partsOf after ≡ partsOf before ++ p ∷ [])
+Pushed before p after true = (before .count < mostParts) × (partsOf after ≡ partsOf before ++ p ∷ []) × (after .count ≡ before .count + 1)
 Pushed before p after false = (mostParts ≤ before .count) × (after ≡ before)

@@ -1,5 +1,6 @@
 -- The range of a part's length or weight.
-use Prim.Native.Nat.{ℕ}
+use Prim.Native.Nat.{ℕ, _≤_}
+use mathlib.Core.List.{List, [], _∷_}
 use Rattle.geometry.specs.Limits.{least, site}
 use Rattle.rows.specs.declared.size.Size.{Size}
 use Rattle.rows.specs.declared.size.Size.the-variants.{Fix, Float}
@@ -18,3 +19,8 @@ lowest (Float w) = 1
 abbrev pub highest : Size → ℕ
 highest (Fix m) = site
 highest (Float w) = 1000
+
+-- what each part asks for is in its range
+abbrev pub InRange : List Size → Type 0
+InRange [] = Unit {0}
+InRange (s ∷ ss) = ((lowest s ≤ amount s) × (amount s ≤ highest s)) × InRange ss

@@ -7,8 +7,8 @@ ghost use lib.Dec.{ltb};
 ghost use lib.ListN.{length, getD};
 ghost use Rattle.std.specs.Options.{Cases as BySome};
 ghost use Rattle.geometry.specs.Limits.{least, site};
-ghost use Rattle.rows.specs.Sizes.{amount, lowest, highest};
-ghost use Rattle.rows.specs.Rows.{partsOf, segmentsOf, number, partNamed};
+ghost use Rattle.rows.specs.Sizes.{amount, lowest, highest, InRange};
+ghost use Rattle.rows.specs.Rows.{sizes, partsOf, segmentsOf, number, partNamed};
 ghost use Rattle.rows.specs.Parts.{Pushed};
 use crate::part::Part;
 use crate::parts::Parts;
@@ -63,7 +63,7 @@ impl Part {
 
 impl Parts {
     pub fn new() -> Parts
-        ensures { λ r. ⌜ partsOf r ≡ [] ⌝ }
+        ensures { λ r. ⌜ partsOf r ≡ [] ⌝ ∗ ⌜ r .count ≡ 0 ⌝ }
     {
         Parts {
             items: [Part {
@@ -84,6 +84,22 @@ impl Parts {
         self.items[at] = part;
         self.count = at + 1;
         true
+    }
+
+    // The parts that ask for these sizes; None where one is out of range or there are more than 16.
+    pub fn from_sizes(wanted: &[Size]) -> Option<Parts>
+        ensures { λ r. ⌜ BySome r (InRange (now (wanted .entry)) → length (now (wanted .entry)) ≤ 16 → ⊥) (λ p. sizes (partsOf p) ≡ now (wanted .entry)) ⌝ }
+    {
+        let mut parts = Parts::new();
+        for size in wanted {
+            let Some(part) = Part::new(*size) else {
+                return None;
+            };
+            if !parts.push(part) {
+                return None;
+            }
+        }
+        Some(parts)
     }
 
     pub fn as_slice(&self) -> &[Part]
