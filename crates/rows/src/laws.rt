@@ -3,16 +3,12 @@ ghost use Rattle.rows.specs.Laws.{Any-order, Remainders-suffice};
 ghost use Rattle.rows.specs.Cases.{Worked-cases};
 
 // Largest remainders alone, under any rule for ties, make rows close and keep their bound.
-pub fn largest_remainders_suffice() -> u8
+pub fn largest_remainders_suffice()
     ensures orders { λ _. ⌜ Any-order ⌝ }
     ensures lengths { λ _. ⌜ Remainders-suffice ⌝ }
-{
-    0
-}
+{}
 
 // The worked cases.
-pub fn cases_hold() -> u8
+pub fn cases_hold()
     ensures { λ _. ⌜ Worked-cases ⌝ }
-{
-    0
-}
+{}
