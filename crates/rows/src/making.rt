@@ -102,6 +102,12 @@ impl Parts {
         Some(parts)
     }
 
+    pub fn len(&self) -> usize
+        ensures { λ r. ⌜ r ≡ now (self .entry) .count ⌝ ∗ ⌜ r ≤ 16 ⌝ }
+    {
+        self.count
+    }
+
     pub fn as_slice(&self) -> &[Part]
         ensures { λ r. ⌜ now r ≡ partsOf (now (self .entry)) ⌝ ∗ ⌜ length (now r) ≡ now (self .entry) .count ⌝ }
     {

@@ -1,0 +1,3 @@
+pub mod Summing
+pub mod Keeps
+pub mod Once
