@@ -31,9 +31,10 @@ body-tells : (i : ℕ) (b : Body) → okBody i b ≡ true → Body-ok i b
 body-tells i (Make m) e = ltb-true m 16 e
 body-tells i (Use t) e = further i t e
 body-tells i (Repeat a n t) e = further i t e
-body-tells i (Split a p ts) e =
-    (known-tells (partRules p ts) (and-first (okKnown (partRules p ts)) (okLone i (partRules p ts)) e),
-     lone-tells i (partRules p ts) (and-second (okKnown (partRules p ts)) (okLone i (partRules p ts)) e))
+body-tells i (Split a p ts) e = (
+  known-tells (partRules p ts) (and-first (okKnown (partRules p ts)) (okLone i (partRules p ts)) e),
+  lone-tells i (partRules p ts) (and-second (okKnown (partRules p ts)) (okLone i (partRules p ts)) e),
+)
 
 from-tells : (ls : List Line) (i k : ℕ) (l : Line) → okFrom i ls ≡ true → k < length ls → l ≡ getD ls k l → Body-ok (i + k) (l .body)
 from-tells [] i k l e h f = absurd (omega arith)

@@ -15,11 +15,11 @@ use Rattle.book.specs.Checks.{every, okBody, okFrom, lastFree}
 
 -- one more element, by what the test says of it
 pub every-more : {X : Type 0} (p : X → Bool) (xs : List X) (i : ℕ) (d : X) (b : Bool) → i < length xs → b ≡ p (getD xs i d)
-  → every p (drop i xs) ≡ (b && every p (drop (i + 1) xs))
+    → every p (drop i xs) ≡ (b && every p (drop (i + 1) xs))
 every-more p xs i d b h e = at-drop-more (every p) xs i d h ∙ ap (λ x. x && every p (drop (i + 1) xs)) (sym e)
 
 pub from-more : (ls : List Line) (i : ℕ) (l : Line) (b : Bool) → i < length ls → l ≡ getD ls i l → b ≡ okBody i (l .body)
-  → okFrom i (drop i ls) ≡ (b && okFrom (i + 1) (drop (i + 1) ls))
+    → okFrom i (drop i ls) ≡ (b && okFrom (i + 1) (drop (i + 1) ls))
 from-more ls i l b h e f =
     at-drop-more (okFrom i) ls i l h
     ∙ ap (λ x. okBody i (x .body) && okFrom (i + 1) (drop (i + 1) ls)) (sym e)

@@ -3,11 +3,11 @@ mod bodies;
 mod second;
 mod tally;
 
-use bodies::listed;
 use bodies::BODIES;
-use bodies::tile_length;
-use bodies::TILES;
 use bodies::Random;
+use bodies::TILES;
+use bodies::listed;
+use bodies::tile_length;
 use geometry::units::Mm;
 use rows::parts::Parts;
 use rows::refusal::RowRefusal;
@@ -16,9 +16,9 @@ use rows::row::Row;
 use rows::size::Size;
 use rows::split::split;
 use rows::tile::Tile;
+use second::Told;
 use second::second_repeat;
 use second::second_split;
-use second::Told;
 use std::error::AnyError;
 use tally::Tally;
 

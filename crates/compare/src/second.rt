@@ -12,7 +12,12 @@ pub struct Told {
 
 impl Told {
     pub fn new() -> Told {
-        Told { number: 0, part: 0, lengths: [0; 64], count: 0 }
+        Told {
+            number: 0,
+            part: 0,
+            lengths: [0; 64],
+            count: 0,
+        }
     }
 
     pub fn push(&mut self, length: u64) {
@@ -29,7 +34,10 @@ impl Told {
     }
 
     pub fn agrees(&self, other: &Told) -> bool {
-        self.number == other.number && self.part == other.part && self.count == other.count && self.lengths == other.lengths
+        self.number == other.number
+            && self.part == other.part
+            && self.count == other.count
+            && self.lengths == other.lengths
     }
 }
 
@@ -131,7 +139,11 @@ pub fn second_split(length: u64, sizes: &[Size]) -> Told {
 }
 
 fn share(rest: u64, weights: u64, sizes: &[Size]) -> Told {
-    let mut waiting = [Waiting { length: 0, remainder: 0, served: false }; 64];
+    let mut waiting = [Waiting {
+        length: 0,
+        remainder: 0,
+        served: false,
+    }; 64];
     let mut count = 0usize;
     let mut left = rest;
     for size in sizes {
@@ -139,7 +151,11 @@ fn share(rest: u64, weights: u64, sizes: &[Size]) -> Told {
         if weight > 0 && weights > 0 && count < 64 {
             let product = rest.saturating_mul(weight);
             let length = product / weights;
-            waiting[count] = Waiting { length, remainder: product % weights, served: false };
+            waiting[count] = Waiting {
+                length,
+                remainder: product % weights,
+                served: false,
+            };
             count += 1;
             left = left.saturating_sub(length);
         }

@@ -10,13 +10,21 @@ pub struct Tally {
 
 impl Drop for Tally {
     fn drop(self) {
-        let Tally { rows: _, refused: _, differ: _ } = self;
+        let Tally {
+            rows: _,
+            refused: _,
+            differ: _,
+        } = self;
     }
 }
 
 impl Tally {
     pub fn new() -> Tally {
-        Tally { rows: 0, refused: [0; 6], differ: 0 }
+        Tally {
+            rows: 0,
+            refused: [0; 6],
+            differ: 0,
+        }
     }
 
     pub fn count(&mut self, first: &Told, second: &Told) {

@@ -53,7 +53,7 @@ Closing row L = (ns : List ℕ) → row ≡ Ok ns → sumOf (λ n. n) ns ≡ L
 
 module _ (q : Cuboid → ℕ) (fills : Fills q) where
   cut-keeps : (s : Scope) (a : Axis) (row : Result (List ℕ) RowRefusal) (rules : List ℕ → List ℕ) (ts : List Scope) → Closing row (lengthOn a s) → Cut s a row rules ts
-    → sumOf (λ t. q (t .cuboid)) ts ≡ q (s .cuboid)
+      → sumOf (λ t. q (t .cuboid)) ts ≡ q (s .cuboid)
   cut-keeps s a row rules ts close c =
       sym (sum-map q boxOf ts) ∙ fills (s .cuboid) a (c .lengths) (map boxOf ts) (c .laid) (close (c .lengths) (c .given))
 
@@ -67,7 +67,7 @@ module _ (q : Cuboid → ℕ) (fills : Fills q) where
 
   -- whatever adds along rows is kept
   keeps : {ls : List Line} {first last : List Scope} {k : ℕ} {bs : List Block} → Derived ls first k bs last
-    → sumOf (λ b. q (b .cuboid)) bs + sumOf (λ t. q (t .cuboid)) last ≡ sumOf (λ t. q (t .cuboid)) first
+      → sumOf (λ b. q (b .cuboid)) bs + sumOf (λ t. q (t .cuboid)) last ≡ sumOf (λ t. q (t .cuboid)) first
   keeps begun = zero-add _
   keeps (step {bs = bs} {cs} {s} {ts} {ws} d g) =
       omega (arith, keeps d, does-keep (g .line .body) s cs ts (g .does), sum-append (λ b. q (b .cuboid)) bs cs, sum-append (λ t. q (t .cuboid)) ts ws)
@@ -85,7 +85,7 @@ potentials (t ∷ ts) = omega (arith, potentials ts, potential-is t)
 
 -- a row of one goes on with a rule further down, and a longer one gains
 cut-falls : (i : ℕ) (s : Scope) (a : Axis) (row : Result (List ℕ) RowRefusal) (rules : List ℕ → List ℕ) (ts : List Scope) → s .rule ≤ i → Closing row (lengthOn a s)
-  → ((t : ℕ) (ns : List ℕ) → t ∷ [] ≡ rules ns → i < t) → Cut s a row rules ts → 1 + sumOf potential ts ≤ potential s
+    → ((t : ℕ) (ns : List ℕ) → t ∷ [] ≡ rules ns → i < t) → Cut s a row rules ts → 1 + sumOf potential ts ≤ potential s
 cut-falls i s a row rules ts from close lone c =
     by-count ts (cut-keeps volumeOf (λ c a ns ps laid f. pieces-share c a ns ps laid f .whole) s a row rules ts close c) (c .follow)
   where

@@ -38,7 +38,8 @@ span-same s t p q = λ i. record {
   at = p i;
   size = q i;
   some = isProp→PathP (λ j. least ≤ q j .0) (λ j. le-prop) (s .some) (t .some) i;
-  inside = isProp→PathP (λ j. p j .0 + q j .0 ≤ site) (λ j. le-prop) (s .inside) (t .inside) i }
+  inside = isProp→PathP (λ j. p j .0 + q j .0 ≤ site) (λ j. le-prop) (s .inside) (t .inside) i;
+}
 
 scope-same : (s t : Scope) → s .cuboid ≡ t .cuboid → s .rule ≡ t .rule → s ≡ t
 scope-same s t p q = λ i. record { cuboid = p i; rule = q i; known = isProp→PathP (λ j. q j < mostLines) (λ j. le-prop) (s .known) (t .known) i }

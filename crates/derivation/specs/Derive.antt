@@ -59,4 +59,4 @@ pub record Goes (ls : List Line) (s : Scope) (bs : List Block) (ts : List Scope)
 pub data Derived (ls : List Line) (first : List Scope) : ℕ → List Block → List Scope → Type 0 where
   begun : Derived ls first 0 [] first
   step : {k : ℕ} {bs cs : List Block} {s : Scope} {ts ws : List Scope} → Derived ls first k bs (s ∷ ws) → Goes ls s cs ts
-    → Derived ls first (k + 1) (bs ++ cs) (ts ++ ws)
+      → Derived ls first (k + 1) (bs ++ cs) (ts ++ ws)

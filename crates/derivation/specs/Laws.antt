@@ -42,4 +42,4 @@ Laws-hold = (ls : List Line) (first last : List Scope) (k : ℕ) (bs : List Bloc
 -- the derivation is one
 abbrev pub One-way : Type 0
 One-way = (ls : List Line) (first last last′ : List Scope) (k : ℕ) (bs bs′ : List Block)
-  → Derived ls first k bs last → Derived ls first k bs′ last′ → (bs ≡ bs′) × (last ≡ last′)
+    → Derived ls first k bs last → Derived ls first k bs′ last′ → (bs ≡ bs′) × (last ≡ last′)

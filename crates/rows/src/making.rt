@@ -3,13 +3,13 @@ ghost use mathlib.Core.Path.{_≡_};
 ghost use mathlib.Core.Bool.{true, false};
 ghost use mathlib.Core.List.{[], _∷_, _++_};
 ghost use Prim.Native.Nat.{_≤_, _<_};
-ghost use lib.Dec.{ltb};
+ghost use lib.Dec.{leb};
 ghost use lib.ListN.{length, getD};
 ghost use Rattle.std.specs.Options.{Cases as BySome};
 ghost use Rattle.geometry.specs.Limits.{least, site};
 ghost use Rattle.rows.specs.Sizes.{amount, lowest, highest, InRange};
 ghost use Rattle.rows.specs.Rows.{sizes, partsOf, segmentsOf, number, partNamed};
-ghost use Rattle.rows.specs.Parts.{Pushed};
+ghost use Rattle.rows.specs.Parts.{mostParts, Pushed};
 use crate::part::Part;
 use crate::parts::Parts;
 use crate::refusal::RowRefusal;
@@ -61,6 +61,13 @@ impl Part {
     }
 }
 
+// A split has no room for another part.
+fn is_full(count: usize) -> bool
+    ensures { λ r. ⌜ r ≡ leb mostParts count ⌝ }
+{
+    count >= MOST_PARTS
+}
+
 impl Parts {
     pub fn new() -> Parts
         ensures { λ r. ⌜ partsOf r ≡ [] ⌝ ∗ ⌜ r .count ≡ 0 ⌝ }
@@ -78,7 +85,7 @@ impl Parts {
         ensures { λ r. ⌜ Pushed (now (self .entry)) part (now (self .exit)) r ⌝ }
     {
         let at = self.count;
-        if at >= MOST_PARTS {
+        if is_full(at) {
             return false;
         }
         self.items[at] = part;

@@ -1,6 +1,7 @@
 // The row of a repeat.
 ghost use mathlib.Core.Path.{_≡_};
 ghost use Prim.Native.Nat.{_+_, _<_, _≤_};
+ghost use lib.Dec.{ltb};
 ghost use lib.ListN.{replicate};
 ghost use Rattle.std.specs.Vec.{made};
 ghost use Rattle.rows.specs.Rows.{splitRow, repeatRow, tiles, mostTiles, tileSize, told, toldOf};
@@ -26,6 +27,13 @@ fn tile_count(extent: Mm, tile: Tile) -> u64
     ensures { λ r. ⌜ r ≡ tiles (extent .0) (tile .length .0) ⌝ ∗ ⌜ 1 ≤ r ⌝ }
 {
     ((2 * extent.0 as u64 + tile.length.0 as u64) / (2 * tile.length.0 as u64)).max(1)
+}
+
+// More tiles than a row can have.
+fn too_many(n: u64) -> bool
+    ensures { λ r. ⌜ r ≡ ltb mostTiles n ⌝ }
+{
+    n > MOST_TILES
 }
 
 // How many of n tiles come before tile i. All remainders are equal, so this is the rule for ties alone.
@@ -69,7 +77,7 @@ pub fn repeat(extent: Mm, tile: Tile) -> Result<Row, RowRefusal>
     ensures laws { λ r. ⌜ made r (λ row. Lawful (extent .0) (replicate (tiles (extent .0) (tile .length .0)) tileSize) (told row)) ⌝ }
 {
     let n = tile_count(extent, tile);
-    if n > MOST_TILES {
+    if too_many(n) {
         return Err(RowRefusal::TooManyTiles);
     }
     tile_row(extent, n as u32)

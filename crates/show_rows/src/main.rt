@@ -72,10 +72,26 @@ fn run(rt: &LibcRuntime) -> Result<(), AnyError> {
         return Err("a tile out of range".into());
     };
     let posts = parts(&[fix(200), float(1), fix(200)])?;
-    show(rt, "front of 14000 mm: a post of 200 mm at each end, three panels share the rest", split(Mm(14_000), &front))?;
-    show(rt, "panel of 4534 mm: windows near 900 mm", repeat(Mm(4_534), window))?;
-    show(rt, "panel of 4533 mm: windows near 900 mm", repeat(Mm(4_533), window))?;
-    show(rt, "gap of 400 mm: a post at each end and a panel between", split(Mm(400), &posts))
+    show(
+        rt,
+        "front of 14000 mm: a post of 200 mm at each end, three panels share the rest",
+        split(Mm(14_000), &front),
+    )?;
+    show(
+        rt,
+        "panel of 4534 mm: windows near 900 mm",
+        repeat(Mm(4_534), window),
+    )?;
+    show(
+        rt,
+        "panel of 4533 mm: windows near 900 mm",
+        repeat(Mm(4_533), window),
+    )?;
+    show(
+        rt,
+        "gap of 400 mm: a post at each end and a panel between",
+        split(Mm(400), &posts),
+    )
 }
 
 fn main(rt: LibcRuntime) -> Result<(), AnyError> {

@@ -19,14 +19,15 @@ loop-size-again c =
     let pushed = c .if-not-push .ensures tt in
     let next = drop (c .loop-size .size-index + 1) (c .args .wanted .now) in
     let read : drop (c .loop-size .size-index) (c .args .wanted .now) ≡ c .in-Some .part .size ∷ next =
-        next-read (c .args .wanted .now) (c .loop-size .size-index) _ (c .in-Some .part .size) (c .loop-size-test .taken) (c .in-Some .ensures tt) in
-    (ap (λ ps. sizes ps ++ next) (pushed .1)
-     ∙ ap (λ ss. ss ++ next) (map-push (λ p. p .size) (partsOf (c .loop-size .parts)) (c .in-Some .part))
-     ∙ append-assoc (sizes (partsOf (c .loop-size .parts))) (c .in-Some .part .size ∷ []) next
-     ∙ ap (λ ss. sizes (partsOf (c .loop-size .parts)) ++ ss) (sym read)
-     ∙ c .loop-size .inv .0,
-     omega (arith, pushed .2, c .loop-size .inv .1),
-     λ h. subst (λ (ss : List Size). InRange ss) read (c .loop-size .inv .2 h) .1)
+    next-read (c .args .wanted .now) (c .loop-size .size-index) _ (c .in-Some .part .size) (c .loop-size-test .taken) (c .in-Some .ensures tt) in (
+      ap (λ ps. sizes ps ++ next) (pushed .1)
+          ∙ ap (λ ss. ss ++ next) (map-push (λ p. p .size) (partsOf (c .loop-size .parts)) (c .in-Some .part))
+          ∙ append-assoc (sizes (partsOf (c .loop-size .parts))) (c .in-Some .part .size ∷ []) next
+          ∙ ap (λ ss. sizes (partsOf (c .loop-size .parts)) ++ ss) (sym read)
+          ∙ c .loop-size .inv .0,
+      omega (arith, pushed .2, c .loop-size .inv .1),
+      λ h. subst (λ (ss : List Size). InRange ss) read (c .loop-size .inv .2 h) .1,
+    )
 
 pub returns-in-rest : need.returns-in-rest
 returns-in-rest c = λ range few.
