@@ -1,0 +1,55 @@
+// A sink takes blocks. What it means are four parts: a count and a volume for each material, the received volume in
+// each cell of its grid, and a yes or no to room for a block.
+ghost use mathlib.Core.Path.{_≡_};
+ghost use mathlib.Core.Bool.{true};
+ghost use Prim.Native.Nat.{ℕ, _<_};
+ghost use Rattle.std.specs.Results.{Cases};
+ghost use Rattle.geometry.specs.declared.block.Block.{Block};
+ghost use Rattle.sinks.specs.Meaning.{Parts, PowerOfTwo, Takes, Tells, Drains, materials, inGrid};
+use crate::refusal::SinkRefusal;
+use geometry::block::Block;
+use geometry::cell::Cell;
+
+pub trait Sink {
+    // The edge of the sink's cells.
+    const EDGE: u32;
+
+    ghost edge: { ℕ };
+
+    ghost parts: { Self → Parts };
+
+    // What an implementation promises of a taken block beyond the four parts.
+    ghost took: { Self → Block → Self → Type 0 };
+
+    // What an implementation promises beyond the four parts where nothing is taken: of a refusal and of a question.
+    ghost kept: { Self → Self → Type 0 };
+
+    // The edge that the meaning uses is the constant, and a power of two.
+    fn edge_of() -> u32
+        ensures value { λ r. ⌜ r ≡ edge ⌝ }
+        ensures power { λ r. ⌜ PowerOfTwo edge ⌝ };
+
+    // Offers a block.
+    fn take(&mut self, block: Block) -> Result<(), SinkRefusal>
+        ensures takes { λ r. ⌜ Takes edge (parts (now (self .entry))) (parts (now (self .exit))) block r ⌝ }
+        ensures state { λ r. ⌜ Cases r (λ _. took (now (self .entry)) block (now (self .exit))) (λ _. kept (now (self .entry)) (now (self .exit))) ⌝ };
+
+    fn count(&mut self, material: u8) -> Result<u64, SinkRefusal>
+        ensures answer { λ r. ⌜ Tells (material < materials) (parts (now (self .entry)) .count material) r ⌝ }
+        ensures same { λ r. ⌜ parts (now (self .exit)) ≡ parts (now (self .entry)) ⌝ }
+        ensures state { λ r. ⌜ kept (now (self .entry)) (now (self .exit)) ⌝ };
+
+    fn volume(&mut self, material: u8) -> Result<u64, SinkRefusal>
+        ensures answer { λ r. ⌜ Tells (material < materials) (parts (now (self .entry)) .volume material) r ⌝ }
+        ensures same { λ r. ⌜ parts (now (self .exit)) ≡ parts (now (self .entry)) ⌝ }
+        ensures state { λ r. ⌜ kept (now (self .entry)) (now (self .exit)) ⌝ };
+
+    fn cell(&mut self, cell: Cell) -> Result<u64, SinkRefusal>
+        ensures answer { λ r. ⌜ Tells (inGrid edge cell ≡ true) (parts (now (self .entry)) .cell cell) r ⌝ }
+        ensures same { λ r. ⌜ parts (now (self .exit)) ≡ parts (now (self .entry)) ⌝ }
+        ensures state { λ r. ⌜ kept (now (self .entry)) (now (self .exit)) ⌝ };
+
+    // Hands out a text to the start of a buffer; a sink that has none hands out nothing.
+    fn drain(&mut self, out: &mut [u8]) -> Result<usize, SinkRefusal>
+        ensures { λ r. ⌜ Drains (parts (now (self .entry))) (parts (now (self .exit))) (now (out .entry)) (now (out .exit)) r ⌝ };
+}

@@ -1,0 +1,3 @@
+pub mod Layings
+pub mod Actings
+pub mod Runnings
