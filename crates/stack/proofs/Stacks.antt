@@ -27,7 +27,7 @@ module _ {X : Type 0} where
       ap reverse (take-more xs k x h) ∙ (reverse-append (take k xs) (getD xs k x ∷ []) ∙ ap (λ y. y ∷ held xs k) (sym r))
 
   -- a mark past the end counts as the end
-  held-min : (xs : List X) (n m : ℕ) → m ≡ min n (length xs) → held xs n ≡ held xs m
+  pub held-min : (xs : List X) (n m : ℕ) → m ≡ min n (length xs) → held xs n ≡ held xs m
   held-min xs n m e =
       ⊎-elim (λ h. let q : n ≡ m = omega arith in ap (held xs) q)
       (λ h. ap reverse (take-all n xs h ∙ sym (take-all m xs (omega arith)))) (cases-lt n (length xs))
