@@ -108,20 +108,13 @@ abbrev pub Chain : {S : Type 0} → (S → Block → S → Type 0) → S → Lis
 Chain R s [] t = t ≡ s
 Chain {S} R s (b ∷ bs) t = (u : S) × R s b u × Chain R u bs t
 
--- a drain alters only the answers about room, and of the buffer only as many bytes as it answers, from the start;
--- where the buffer is too short nothing is altered
-abbrev pub Drains : Parts → Parts → List ℕ → List ℕ → Result ℕ SinkRefusal → Type 0
-Drains a b buffer after (Ok n) = Keeps a b × (n ≤ length buffer) × (drop n after ≡ drop n buffer)
-Drains a b buffer after (Err ShortBuffer) = (b ≡ a) × (after ≡ buffer)
-Drains a b buffer after (Err NoSuch) = ⊥
-Drains a b buffer after (Err NoRoom) = ⊥
-Drains a b buffer after (Err OverLimit) = ⊥
+-- s takes the block and is then t
+abbrev pub Taken : {S : Type 0} → ℕ → (S → Parts) → S → Block → S → Type 0
+Taken edge parts s b t = Takes edge (parts s) (parts t) b (Ok tt)
 
--- the sink takes the block
-pub record Taking {S : Type 0} (edge : ℕ) (parts : S → Parts) (took : S → Block → S → Type 0) (s : S) (b : Block) (t : S) : Type 0 where
-  pub judged : Judged (overMaterials (parts s .volume)) (parts s .room b) b (Ok tt)
-  pub grown : Grown edge (parts s) (parts t) b
-  pub more : took s b t
+-- and as the implementation promises more
+abbrev pub Taking : {S : Type 0} → ℕ → (S → Parts) → (S → Block → S → Type 0) → S → Block → S → Type 0
+Taking edge parts took s b t = Taken edge parts s b t × took s b t
 
 -- the sink takes nothing: it was not asked, or it refused, and what it means is the same
 abbrev pub Stays : {S : Type 0} → (S → Parts) → (S → S → Type 0) → S → S → Type 0

@@ -2,10 +2,11 @@
 // each cell of its grid, and a yes or no to room for a block.
 ghost use mathlib.Core.Path.{_≡_};
 ghost use mathlib.Core.Bool.{true};
+ghost use mathlib.Core.List.{List, []};
 ghost use Prim.Native.Nat.{ℕ, _<_};
 ghost use Rattle.std.specs.Results.{Cases};
 ghost use Rattle.geometry.specs.declared.block.Block.{Block};
-ghost use Rattle.sinks.specs.Meaning.{Parts, PowerOfTwo, Takes, Tells, Drains, materials, inGrid};
+ghost use Rattle.sinks.specs.Meaning.{Parts, PowerOfTwo, Takes, Tells, Keeps, HandsOut, materials, inGrid};
 use crate::refusal::SinkRefusal;
 use geometry::block::Block;
 use geometry::cell::Cell;
@@ -21,8 +22,11 @@ pub trait Sink {
     // What an implementation promises of a taken block beyond the four parts.
     ghost took: { Self → Block → Self → Type 0 };
 
-    // What an implementation promises beyond the four parts where nothing is taken: of a refusal and of a question.
+    // What an implementation promises beyond the four parts where nothing is taken or handed out: of a refusal and of a question.
     ghost kept: { Self → Self → Type 0 };
+
+    // What a drain hands out: nothing for a sink that has none.
+    ghost text: { Self → List ℕ };
 
     // The edge that the meaning uses is the constant, and a power of two.
     fn edge_of() -> u32
@@ -49,7 +53,9 @@ pub trait Sink {
         ensures same { λ r. ⌜ parts (now (self .exit)) ≡ parts (now (self .entry)) ⌝ }
         ensures state { λ r. ⌜ kept (now (self .entry)) (now (self .exit)) ⌝ };
 
-    // Hands out a text to the start of a buffer; a sink that has none hands out nothing.
+    // Hands out the text and empties it.
     fn drain(&mut self, out: &mut [u8]) -> Result<usize, SinkRefusal>
-        ensures { λ r. ⌜ Drains (parts (now (self .entry))) (parts (now (self .exit))) (now (out .entry)) (now (out .exit)) r ⌝ };
+        ensures hands { λ r. ⌜ HandsOut (text (now (self .entry))) (now (out .entry)) (now (out .exit)) r ⌝ }
+        ensures state { λ r. ⌜ Cases r (λ _. Keeps (parts (now (self .entry))) (parts (now (self .exit))) × (text (now (self .exit)) ≡ [])) (λ _. (parts (now (self .exit)) ≡ parts (now (self .entry))) × kept (now (self .entry)) (now (self .exit))) ⌝ }
+        ensures idle { λ r. ⌜ (text (now (self .entry)) ≡ [] → (parts (now (self .exit)) ≡ parts (now (self .entry))) × kept (now (self .entry)) (now (self .exit))) ⌝ };
 }

@@ -1,0 +1,5 @@
+pub mod Writing
+pub mod Lines
+pub mod Drawings
+pub mod Bills
+pub mod Objs
