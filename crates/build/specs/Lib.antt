@@ -1,1 +1,3 @@
 pub mod Builds
+pub mod History
+pub mod Lawful

@@ -3,3 +3,4 @@ pub mod joined;
 pub mod build;
 pub mod opening;
 pub mod closing;
+pub mod laws;

@@ -31,7 +31,7 @@ chain-weaker R Q w s t [] e = e
 chain-weaker R Q w s t (b ∷ bs) (u, first, rest) = (u, w s b u first, chain-weaker R Q w u t bs rest)
 
 -- a number of the state that grows by a number of each block
-chain-sum : {S : Type 0} (R : S → Block → S → Type 0) (f : S → ℕ) (v : Block → ℕ) → ((s : S) (b : Block) (t : S) → R s b t → f t ≡ f s + v b)
+pub chain-sum : {S : Type 0} (R : S → Block → S → Type 0) (f : S → ℕ) (v : Block → ℕ) → ((s : S) (b : Block) (t : S) → R s b t → f t ≡ f s + v b)
     → (s t : S) (bs : List Block) → Chain R s bs t → f t ≡ f s + sumOf v bs
 chain-sum R f v w s t [] e = omega (arith, ap f e)
 chain-sum R f v w s t (b ∷ bs) (u, first, rest) = omega (arith, chain-sum R f v w u t bs rest, w s b u first)

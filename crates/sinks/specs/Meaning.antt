@@ -119,3 +119,16 @@ Taking edge parts took s b t = Taken edge parts s b t × took s b t
 -- the sink takes nothing: it was not asked, or it refused, and what it means is the same
 abbrev pub Stays : {S : Type 0} → (S → Parts) → (S → S → Type 0) → S → S → Type 0
 Stays parts kept s t = (parts t ≡ parts s) × ((t ≡ s) ⊎ kept s t)
+
+-- a question to the sink s, which is then t, alters nothing
+pub record Asking {S : Type 0} (parts : S → Parts) (kept : S → S → Type 0) (exists : Type 0) (n : ℕ) (s t : S) (r : Result ℕ SinkRefusal) : Type 0 where
+  pub answer : Tells exists n r
+  pub same : parts t ≡ parts s
+  pub state : kept s t
+
+-- a drain of the sink s, which is then t: the text is handed out and emptied; nothing is altered by a refusal, or where
+-- there is no text
+pub record Draining {S : Type 0} (parts : S → Parts) (text : S → List ℕ) (kept : S → S → Type 0) (s t : S) (buffer after : List ℕ) (r : Result ℕ SinkRefusal) : Type 0 where
+  pub hands : HandsOut (text s) buffer after r
+  pub state : Cases r (λ _. Keeps (parts s) (parts t) × (text t ≡ [])) (λ _. (parts t ≡ parts s) × kept s t)
+  pub idle : text s ≡ [] → (parts t ≡ parts s) × kept s t
