@@ -168,6 +168,7 @@ module _ {S : Type 0} (edge : ℕ) (parts : S → Parts) (took : S → Block →
     looked-at es ws s f d exists (Err x) t = tt
 
     answers : {es : List Event} {o : Bool} {ws : List Scope} {c : ℕ} {s : S} (h : History edge parts took kept text ls cap lots start es o ws c s) → Answers edge lots (so-far h .blocks) ws es
+    unfolding so-far same-far
     answers opened = tt
     answers (run budget n e h r d) = r .within
     answers (wait {es = es} {ws = ws} {s = s} r h t) = exactly es ws s r (so-far h) t
