@@ -1,2 +1,3 @@
 pub mod Stacked
 pub mod Histories
+pub mod Callings

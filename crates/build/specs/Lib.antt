@@ -1,3 +1,4 @@
 pub mod Builds
 pub mod History
 pub mod Lawful
+pub mod Carried

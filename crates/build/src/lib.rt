@@ -4,3 +4,4 @@ pub mod build;
 pub mod opening;
 pub mod closing;
 pub mod laws;
+pub mod calls;
