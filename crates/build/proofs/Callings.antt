@@ -21,17 +21,17 @@ use Rattle.build.proofs.Histories.{lawful}
 
 -- one call more is made
 pub made-more : {K : Type 0} (f : K → Option Call) (es fs : List Event) (e : Event) (ks : List K) (i : ℕ) (d : K) → i < length ks
-  → made fs ≡ made es ++ map f (take i ks) → callOf e ≡ f (getD ks i d) → made (e ∷ fs) ≡ made es ++ map f (take (i + 1) ks)
+    → made fs ≡ made es ++ map f (take i ks) → callOf e ≡ f (getD ks i d) → made (e ∷ fs) ≡ made es ++ map f (take (i + 1) ks)
 made-more f es fs e ks i d h m k =
     ap (λ xs. xs ++ (callOf e ∷ [])) m
     ∙ append-assoc (made es) (map f (take i ks)) (callOf e ∷ [])
     ∙ ap (λ xs. made es ++ xs)
-      (ap (λ x. map f (take i ks) ++ (x ∷ [])) k ∙ sym (ap (map f) (take-more ks i d h) ∙ map-push f (take i ks) (getD ks i d)))
+    (ap (λ x. map f (take i ks) ++ (x ∷ [])) k ∙ sym (ap (map f) (take-more ks i d h) ∙ map-push f (take i ks) (getD ks i d)))
 
 -- the same call, where the book and the stack are the same
 pub one-at : {S : Type 0} (edge : ℕ) (parts : S → Parts) (took : S → Block → S → Type 0) (kept : S → S → Type 0) (text : S → List ℕ)
-  (ls ms : List Line) (cap top : ℕ) (k : Call) (ws : List Scope) (c : ℕ) (s : S) (vs : List Scope) (d : ℕ) (t : S) → ls ≡ ms → cap ≡ top
-  → OneMore edge parts took kept text ls cap k ws c s vs d t → OneMore edge parts took kept text ms top k ws c s vs d t
+    (ls ms : List Line) (cap top : ℕ) (k : Call) (ws : List Scope) (c : ℕ) (s : S) (vs : List Scope) (d : ℕ) (t : S) → ls ≡ ms → cap ≡ top
+    → OneMore edge parts took kept text ls cap k ws c s vs d t → OneMore edge parts took kept text ms top k ws c s vs d t
 one-at edge parts took kept text ls ms cap top k ws c s vs d t e f one =
     subst₂ (λ (ns : List Line) (n : ℕ). OneMore edge parts took kept text ns n k ws c s vs d t) e f one
 
@@ -58,5 +58,5 @@ passed-few space lots h =
 
 -- a build that was just opened
 pub opened-at : {S : Type 0} (edge : ℕ) (parts : S → Parts) (took : S → Block → S → Type 0) (kept : S → S → Type 0) (text : S → List ℕ)
-  (ls : List Line) (cap : ℕ) (lots ws : List Scope) (c : ℕ) (s : S) → ws ≡ lots → c ≡ 0 → History edge parts took kept text ls cap lots s [] true ws c s
+    (ls : List Line) (cap : ℕ) (lots ws : List Scope) (c : ℕ) (s : S) → ws ≡ lots → c ≡ 0 → History edge parts took kept text ls cap lots s [] true ws c s
 opened-at edge parts took kept text ls cap lots ws c s e f = subst₂ (λ (vs : List Scope) (n : ℕ). History edge parts took kept text ls cap lots s [] true vs n s) (sym e) (sym f) opened

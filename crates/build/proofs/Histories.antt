@@ -75,7 +75,7 @@ chain-received edge parts took s t bs chain =
     record {
       grown = blocks-told edge parts s t bs taken;
       whole = chain-sum (Taken edge parts) (λ u. overMaterials (parts u .volume)) (λ b. volumeOf (b .cuboid))
-        (λ u b v r. over-at (parts u .volume) (parts v .volume) (b .material) (volumeOf (b .cuboid)) (r .after .volume) (r .judged .0)) s t bs taken;
+          (λ u b v r. over-at (parts u .volume) (parts v .volume) (b .material) (volumeOf (b .cuboid)) (r .after .volume) (r .judged .0)) s t bs taken;
     }
 
 lots-most : (lots : List Scope) → scopeVolume lots ≤ 4398046511104 * length lots
@@ -163,7 +163,7 @@ module _ {S : Type 0} (edge : ℕ) (parts : S → Parts) (took : S → Block →
     cells es ws s f d = omega (arith, f .received .grown .cell d, none .cell d, laws-hold ls lots ws (answered es) (f .blocks) ok (f .derived) .cells edge d)
 
     looked-at : (es : List Event) (ws : List Scope) (s : S) (f : So-far es ws s) (d : Cell) (exists : Type 0) (r : Result ℕ SinkRefusal) → Tells exists (parts s .cell d) r
-      → made r (λ n. n + scopesIn edge d ws ≡ scopesIn edge d lots)
+        → made r (λ n. n + scopesIn edge d ws ≡ scopesIn edge d lots)
     looked-at es ws s f d exists (Ok v) t = ap (λ n. n + scopesIn edge d ws) (t .1) ∙ cells es ws s f d
     looked-at es ws s f d exists (Err x) t = tt
 

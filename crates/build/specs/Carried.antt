@@ -40,25 +40,25 @@ module _ {S : Type 0} (edge : ℕ) (parts : S → Parts) (took : S → Block →
   -- every history that leads to the sink s goes on to t by this call
   abbrev pub SinkOneMore : SinkCall → S → S → Type 0
   SinkOneMore k s t = (ls : List Line) (cap : ℕ) (lots : List Scope) (start : S) (es : List Event) (o : Bool) (ws : List Scope) (c : ℕ)
-    → History edge parts took kept text ls cap lots start es o ws c s
-    → (e : Event) × (callOf e ≡ Some (Sink k)) × History edge parts took kept text ls cap lots start (e ∷ es) o ws c t
+      → History edge parts took kept text ls cap lots start es o ws c s
+      → (e : Event) × (callOf e ≡ Some (Sink k)) × History edge parts took kept text ls cap lots start (e ∷ es) o ws c t
 
   -- and by these calls
   abbrev pub Sink-goes-on : List SinkCall → S → S → Type 0
   Sink-goes-on ks s t = (ls : List Line) (cap : ℕ) (lots : List Scope) (start : S) (es : List Event) (o : Bool) (ws : List Scope) (c : ℕ)
-    → History edge parts took kept text ls cap lots start es o ws c s
-    → (fs : List Event) × (made fs ≡ made es ++ onSink ks) × History edge parts took kept text ls cap lots start fs o ws c t
+      → History edge parts took kept text ls cap lots start es o ws c s
+      → (fs : List Event) × (made fs ≡ made es ++ onSink ks) × History edge parts took kept text ls cap lots start fs o ws c t
 
   -- the same of an open build beside its sink
   abbrev pub OneMore : List Line → ℕ → Call → List Scope → ℕ → S → List Scope → ℕ → S → Type 0
   OneMore ls cap k ws c s vs d t = (lots : List Scope) (start : S) (es : List Event)
-    → History edge parts took kept text ls cap lots start es true ws c s
-    → (e : Event) × (callOf e ≡ Some k) × History edge parts took kept text ls cap lots start (e ∷ es) true vs d t
+      → History edge parts took kept text ls cap lots start es true ws c s
+      → (e : Event) × (callOf e ≡ Some k) × History edge parts took kept text ls cap lots start (e ∷ es) true vs d t
 
   abbrev pub Goes-on : List Line → ℕ → List Call → List Scope → ℕ → S → List Scope → ℕ → S → Type 0
   Goes-on ls cap ks ws c s vs d t = (lots : List Scope) (start : S) (es : List Event)
-    → History edge parts took kept text ls cap lots start es true ws c s
-    → (fs : List Event) × (made fs ≡ made es ++ map Some ks) × History edge parts took kept text ls cap lots start fs true vs d t
+      → History edge parts took kept text ls cap lots start es true ws c s
+      → (fs : List Event) × (made fs ≡ made es ++ map Some ks) × History edge parts took kept text ls cap lots start fs true vs d t
 
 -- the laws hold of these events, wherever they led
 pub record Stage {S : Type 0} (edge : ℕ) (parts : S → Parts) (ls : List Line) (lots : List Scope) (es : List Event) : Type 0 where

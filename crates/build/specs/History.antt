@@ -44,16 +44,16 @@ module _ {S : Type 0} (edge : ℕ) (parts : S → Parts) (took : S → Block →
   pub data History (ls : List Line) (cap : ℕ) (lots : List Scope) (start : S) : List Event → Bool → List Scope → ℕ → S → Type 0 where
     opened : History ls cap lots start [] true lots 0 start
     run : {es : List Event} {ws vs : List Scope} {c d : ℕ} {s t : S} (budget n : ℕ) (e : Ending) → History ls cap lots start es true ws c s
-      → Ran edge parts took kept ls ws vs cap s t budget n e → d ≡ min (c + n) (2 ^ 64 - 1) → History ls cap lots start (ran budget n e ∷ es) true vs d t
+        → Ran edge parts took kept ls ws vs cap s t budget n e → d ≡ min (c + n) (2 ^ 64 - 1) → History ls cap lots start (ran budget n e ∷ es) true vs d t
     wait : {es : List Event} {ws : List Scope} {c : ℕ} {s : S} (r : Waiting) → History ls cap lots start es true ws c s
-      → Tells ws r → History ls cap lots start (waited r ∷ es) true ws c s
+        → Tells ws r → History ls cap lots start (waited r ∷ es) true ws c s
     close : {es : List Event} {ws : List Scope} {c : ℕ} {s : S} (r : Closed) → History ls cap lots start es true ws c s
-      → Tells ws (r .waiting) → r .steps ≡ c → History ls cap lots start (closed r ∷ es) false ws c s
+        → Tells ws (r .waiting) → r .steps ≡ c → History ls cap lots start (closed r ∷ es) false ws c s
     drain : {es : List Event} {o : Bool} {ws : List Scope} {c : ℕ} {s t : S} (buffer after : List ℕ) (r : Result ℕ SinkRefusal) → History ls cap lots start es o ws c s
-      → Draining parts text kept s t buffer after r → History ls cap lots start (drained r ∷ es) o ws c t
+        → Draining parts text kept s t buffer after r → History ls cap lots start (drained r ∷ es) o ws c t
     count : {es : List Event} {o : Bool} {ws : List Scope} {c : ℕ} {s t : S} (m : ℕ) (r : Result ℕ SinkRefusal) → History ls cap lots start es o ws c s
-      → Asking parts kept (m < materials) (parts s .count m) s t r → History ls cap lots start (counted m r ∷ es) o ws c t
+        → Asking parts kept (m < materials) (parts s .count m) s t r → History ls cap lots start (counted m r ∷ es) o ws c t
     measure : {es : List Event} {o : Bool} {ws : List Scope} {c : ℕ} {s t : S} (m : ℕ) (r : Result ℕ SinkRefusal) → History ls cap lots start es o ws c s
-      → Asking parts kept (m < materials) (parts s .volume m) s t r → History ls cap lots start (measured m r ∷ es) o ws c t
+        → Asking parts kept (m < materials) (parts s .volume m) s t r → History ls cap lots start (measured m r ∷ es) o ws c t
     look : {es : List Event} {o : Bool} {ws : List Scope} {c : ℕ} {s t : S} (d : Cell) (r : Result ℕ SinkRefusal) → History ls cap lots start es o ws c s
-      → Asking parts kept (inGrid edge d ≡ true) (parts s .cell d) s t r → History ls cap lots start (looked d r ∷ es) o ws c t
+        → Asking parts kept (inGrid edge d ≡ true) (parts s .cell d) s t r → History ls cap lots start (looked d r ∷ es) o ws c t

@@ -60,6 +60,6 @@ pub record Rows-close : Type 0 where
 -- for a sink of any meaning, any checked lines, at most 16 lots, any stack and any list of calls
 pub record Laws-hold {S : Type 0} (edge : ℕ) (parts : S → Parts) (took : S → Block → S → Type 0) (kept : S → S → Type 0) (text : S → List ℕ) : Type 0 where
   pub calls : (ls : List Line) (cap : ℕ) (lots : List Scope) (start : S) → Checked ls → length lots ≤ 16 → Empty (parts start)
-    → (es : List Event) (o : Bool) (ws : List Scope) (c : ℕ) (s : S) → History edge parts took kept text ls cap lots start es o ws c s
-    → Lawful edge ls lots es ws c (parts s)
+      → (es : List Event) (o : Bool) (ws : List Scope) (c : ℕ) (s : S) → History edge parts took kept text ls cap lots start es o ws c s
+      → Lawful edge ls lots es ws c (parts s)
   pub rows : Rows-close

@@ -85,7 +85,14 @@ fn carry_all<S: Sink>(build: &mut Build, sink: &mut S, out: &mut [u8], calls: &[
 
 // Opens a build, carries out the calls, closes it, and carries out the calls on the sink alone. Beside a sink that was
 // empty the laws hold at the start and after every one of them.
-pub fn carry_out<S: Sink>(joined: JoinedLots, slots: &mut [Scope], sink: &mut S, out: &mut [u8], calls: &[Call], after: &[SinkCall]) -> Closed
+pub fn carry_out<S: Sink>(
+    joined: JoinedLots,
+    slots: &mut [Scope],
+    sink: &mut S,
+    out: &mut [u8],
+    calls: &[Call],
+    after: &[SinkCall],
+) -> Closed
     ensures { λ r. ⌜ (Empty (parts (now (sink .entry))) → Carried edge parts (joinedLines joined) (passed (length (now (slots .entry))) (lotsOf joined)) (now (calls .entry)) r (now (after .entry)) (parts (now (sink .exit)))) ⌝ }
 {
     let Opened { mut build, slip } = open(joined, slots);

@@ -35,7 +35,12 @@ impl<'s> Build<'s> {
         ensures lines { λ _. ⌜ linesIn (now (self .exit)) ≡ linesIn (now (self .entry)) ⌝ }
         ensures steps { λ r. ⌜ stepsOf (now (self .exit)) ≡ min (stepsOf (now (self .entry)) + r .0) (2 ^ 64 - 1) ⌝ }
     {
-        let Build { slots, mark, steps, table } = self;
+        let Build {
+            slots,
+            mark,
+            steps,
+            table,
+        } = self;
         let (n, ending, after) = run_slots(table, slots, *mark, sink, budget);
         *mark = after;
         *steps = steps.saturating_add(n as u64);
@@ -60,7 +65,12 @@ impl<'s> Build<'s> {
         ensures steps { λ r. ⌜ r .steps ≡ stepsOf (self .entry) ⌝ }
     {
         let Slip { lots: _ } = slip;
-        let Build { slots, mark, steps, table: _ } = self;
+        let Build {
+            slots,
+            mark,
+            steps,
+            table: _,
+        } = self;
         let waiting = volume_over(slots, mark);
         Closed { waiting, steps }
     }

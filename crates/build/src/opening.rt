@@ -60,6 +60,18 @@ pub fn open<'s>(joined: JoinedLots, slots: &'s mut [Scope]) -> Opened<'s>
 {
     let fits = joined.fit(slots.len());
     let JoinedLots { table, lots, count } = joined;
-    let mark = if fits { fill(slots, &lots[0..count]) } else { 0 };
-    Opened { build: Build { slots, mark, steps: 0, table }, slip: Slip { lots: count } }
+    let mark = if fits {
+        fill(slots, &lots[0..count])
+    } else {
+        0
+    };
+    Opened {
+        build: Build {
+            slots,
+            mark,
+            steps: 0,
+            table,
+        },
+        slip: Slip { lots: count },
+    }
 }

@@ -22,5 +22,5 @@ returns c =
     let xs = c .args .slots .now in
     let n : c .loop-i .i ≡ min (c .args .mark) (length xs) = omega (arith, c .min-count .ensures) in
     let e : scopeVolume (held xs (c .args .mark)) ≡ scopeVolume (take (c .loop-i .i) xs) =
-        ap scopeVolume (held-min xs (c .args .mark) (c .loop-i .i) n) ∙ sum-reverse (λ (s : Scope). volumeOf (s .cuboid)) (take (c .loop-i .i) xs) in
+    ap scopeVolume (held-min xs (c .args .mark) (c .loop-i .i) n) ∙ sum-reverse (λ (s : Scope). volumeOf (s .cuboid)) (take (c .loop-i .i) xs) in
     record { tells = (c .min-count .ensures ∙ sym (held-length xs (c .args .mark)), omega (arith, c .loop-i .inv, e)); same = search needs }
