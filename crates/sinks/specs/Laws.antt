@@ -13,10 +13,11 @@ use Rattle.geometry.specs.Boxes.{volumeOf}
 use Rattle.sinks.specs.Meaning.{Parts, Takes, Taken, Taking, Empty, Chain, PowerOfTwo, overMaterials, forMaterial, sharedBy}
 use Rattle.sinks.specs.declared.offers.Offered.{Offered}
 
--- how many of the blocks have a material, and their volume
+-- how many of the blocks have a material
 abbrev pub countIn : List Block → ℕ → ℕ
 countIn bs m = sumOf (λ x. forMaterial m x 1) bs
 
+-- the volume of the blocks that have a material
 abbrev pub volumeIn : List Block → ℕ → ℕ
 volumeIn bs m = sumOf (λ x. forMaterial m x (volumeOf (x .cuboid))) bs
 

@@ -14,6 +14,7 @@ use Rattle.sinks.specs.declared.list.BlockList.{BlockList}
 abbrev pub listed : BlockList → List Block
 listed l = take (l .len) (now (l .slots))
 
+-- the four parts of a list: there is room while an entry is free
 abbrev pub listParts : BlockList → Parts
 listParts l = record { count = countOf (l .tallies); volume = volumeHeld (l .tallies); cell = λ d. sharedBy 1 d (listed l); room = λ _. ltb (l .len) (length (now (l .slots))) }
 

@@ -71,6 +71,11 @@ pub record Takes (edge : ℕ) (a b : Parts) (x : Block) (r : Result (Unit {0}) S
   pub judged : Judged (overMaterials (a .volume)) (a .room x) x r
   pub after : Cases r (λ _. Grown edge a b x) (λ _. b ≡ a)
 
+-- a block is offered to the sink s, which is then t: what `took` says holds of a taken block, and what `kept` says of a refusal
+pub record Offering {S : Type 0} (edge : ℕ) (parts : S → Parts) (took : S → Block → S → Type 0) (kept : S → S → Type 0) (s t : S) (x : Block) (r : Result (Unit {0}) SinkRefusal) : Type 0 where
+  pub takes : Takes edge (parts s) (parts t) x r
+  pub state : Cases r (λ _. took s x t) (λ _. kept s t)
+
 -- what a question answers about something that may not exist
 abbrev pub Tells : Type 0 → ℕ → Result ℕ SinkRefusal → Type 0
 Tells exists n (Ok v) = exists × (v ≡ n)
@@ -78,6 +83,12 @@ Tells exists n (Err NoSuch) = exists → ⊥
 Tells exists n (Err NoRoom) = ⊥
 Tells exists n (Err OverLimit) = ⊥
 Tells exists n (Err ShortBuffer) = ⊥
+
+-- a question to the sink s, which is then t, alters nothing
+pub record Asking {S : Type 0} (parts : S → Parts) (kept : S → S → Type 0) (exists : Type 0) (n : ℕ) (s t : S) (r : Result ℕ SinkRefusal) : Type 0 where
+  pub answer : Tells exists n r
+  pub same : parts t ≡ parts s
+  pub state : kept s t
 
 -- a and b agree in all but the answers about room
 pub record Keeps (a b : Parts) : Type 0 where
@@ -103,6 +114,12 @@ HandsOut text buffer after (Err NoSuch) = ⊥
 HandsOut text buffer after (Err NoRoom) = ⊥
 HandsOut text buffer after (Err OverLimit) = ⊥
 
+-- a drain of the sink s, which is then t: the text is handed out and emptied; nothing is altered by a refusal, or where there is no text
+pub record Draining {S : Type 0} (parts : S → Parts) (text : S → List ℕ) (kept : S → S → Type 0) (s t : S) (buffer after : List ℕ) (r : Result ℕ SinkRefusal) : Type 0 where
+  pub hands : HandsOut (text s) buffer after r
+  pub state : Cases r (λ _. Keeps (parts s) (parts t) × (text t ≡ [])) (λ _. (parts t ≡ parts s) × kept s t)
+  pub idle : text s ≡ [] → (parts t ≡ parts s) × kept s t
+
 -- from s to t by the blocks, one after another, each by a step of R
 abbrev pub Chain : {S : Type 0} → (S → Block → S → Type 0) → S → List Block → S → Type 0
 Chain R s [] t = t ≡ s
@@ -119,16 +136,3 @@ Taking edge parts took s b t = Taken edge parts s b t × took s b t
 -- the sink takes nothing: it was not asked, or it refused, and what it means is the same
 abbrev pub Stays : {S : Type 0} → (S → Parts) → (S → S → Type 0) → S → S → Type 0
 Stays parts kept s t = (parts t ≡ parts s) × ((t ≡ s) ⊎ kept s t)
-
--- a question to the sink s, which is then t, alters nothing
-pub record Asking {S : Type 0} (parts : S → Parts) (kept : S → S → Type 0) (exists : Type 0) (n : ℕ) (s t : S) (r : Result ℕ SinkRefusal) : Type 0 where
-  pub answer : Tells exists n r
-  pub same : parts t ≡ parts s
-  pub state : kept s t
-
--- a drain of the sink s, which is then t: the text is handed out and emptied; nothing is altered by a refusal, or where
--- there is no text
-pub record Draining {S : Type 0} (parts : S → Parts) (text : S → List ℕ) (kept : S → S → Type 0) (s t : S) (buffer after : List ℕ) (r : Result ℕ SinkRefusal) : Type 0 where
-  pub hands : HandsOut (text s) buffer after r
-  pub state : Cases r (λ _. Keeps (parts s) (parts t) × (text t ≡ [])) (λ _. (parts t ≡ parts s) × kept s t)
-  pub idle : text s ≡ [] → (parts t ≡ parts s) × kept s t

@@ -16,10 +16,11 @@ use Rattle.sinks.specs.Meaning.{overMaterials, forMaterial, Judged}
 abbrev pub numberOf : MaterialSums → ℕ → ℕ
 numberOf s m = getD (s .each) m 0
 
--- the blocks of a material, and their volume
+-- the blocks of a material
 abbrev pub countOf : Tallies → ℕ → ℕ
 countOf t m = numberOf (t .counts) m
 
+-- the volume of a material
 abbrev pub volumeHeld : Tallies → ℕ → ℕ
 volumeHeld t m = numberOf (t .volumes) m
 

@@ -35,7 +35,7 @@ impl<'s> BlockList<'s> {
     pub fn new(slots: &'s mut [Block]) -> BlockList<'s>
         ensures empty { λ r. ⌜ Empty (listParts r) ⌝ }
         ensures none { λ r. ⌜ r .len ≡ 0 ⌝ }
-        ensures slots { λ r. ⌜ now (r .slots) ≡ now (slots .entry) ⌝ }
+        ensures slots { λ r. ⌜ now (r .slots) ≡ now (slots .entry) ⌝ ∗ ⌜ name (r .slots) ≡ name (slots .entry) ⌝ }
     {
         BlockList {
             slots,
@@ -108,7 +108,7 @@ pub impl<'s> Sink for BlockList<'s> as BlockListSink {
     }
 
     fn cell(&mut self, cell: Cell) -> Result<u64, SinkRefusal> {
-        if !in_grid(1, cell) {
+        if !in_grid(Self::EDGE, cell) {
             return Err(SinkRefusal::NoSuch);
         }
         let len = self.len;

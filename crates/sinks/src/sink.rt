@@ -2,11 +2,10 @@
 // each cell of its grid, and a yes or no to room for a block.
 ghost use mathlib.Core.Path.{_≡_};
 ghost use mathlib.Core.Bool.{true};
-ghost use mathlib.Core.List.{List, []};
+ghost use mathlib.Core.List.{List};
 ghost use Prim.Native.Nat.{ℕ, _<_};
-ghost use Rattle.std.specs.Results.{Cases};
 ghost use Rattle.geometry.specs.declared.block.Block.{Block};
-ghost use Rattle.sinks.specs.Meaning.{Parts, PowerOfTwo, Takes, Tells, Keeps, HandsOut, materials, inGrid};
+ghost use Rattle.sinks.specs.Meaning.{Parts, PowerOfTwo, Offering, Asking, Draining, materials, inGrid};
 use crate::refusal::SinkRefusal;
 use geometry::block::Block;
 use geometry::cell::Cell;
@@ -22,7 +21,8 @@ pub trait Sink {
     // What an implementation promises of a taken block beyond the four parts.
     ghost took: { Self → Block → Self → Type 0 };
 
-    // What an implementation promises beyond the four parts where nothing is taken or handed out: of a refusal and of a question.
+    // What an implementation promises, beyond the four parts, where nothing is taken or handed out: of a refusal and of
+    // a question.
     ghost kept: { Self → Self → Type 0 };
 
     // What a drain hands out: nothing for a sink that has none.
@@ -35,27 +35,18 @@ pub trait Sink {
 
     // Offers a block.
     fn take(&mut self, block: Block) -> Result<(), SinkRefusal>
-        ensures takes { λ r. ⌜ Takes edge (parts (now (self .entry))) (parts (now (self .exit))) block r ⌝ }
-        ensures state { λ r. ⌜ Cases r (λ _. took (now (self .entry)) block (now (self .exit))) (λ _. kept (now (self .entry)) (now (self .exit))) ⌝ };
+        ensures { λ r. ⌜ Offering edge parts took kept (now (self .entry)) (now (self .exit)) block r ⌝ };
 
     fn count(&mut self, material: u8) -> Result<u64, SinkRefusal>
-        ensures answer { λ r. ⌜ Tells (material < materials) (parts (now (self .entry)) .count material) r ⌝ }
-        ensures same { λ r. ⌜ parts (now (self .exit)) ≡ parts (now (self .entry)) ⌝ }
-        ensures state { λ r. ⌜ kept (now (self .entry)) (now (self .exit)) ⌝ };
+        ensures { λ r. ⌜ Asking parts kept (material < materials) (parts (now (self .entry)) .count material) (now (self .entry)) (now (self .exit)) r ⌝ };
 
     fn volume(&mut self, material: u8) -> Result<u64, SinkRefusal>
-        ensures answer { λ r. ⌜ Tells (material < materials) (parts (now (self .entry)) .volume material) r ⌝ }
-        ensures same { λ r. ⌜ parts (now (self .exit)) ≡ parts (now (self .entry)) ⌝ }
-        ensures state { λ r. ⌜ kept (now (self .entry)) (now (self .exit)) ⌝ };
+        ensures { λ r. ⌜ Asking parts kept (material < materials) (parts (now (self .entry)) .volume material) (now (self .entry)) (now (self .exit)) r ⌝ };
 
     fn cell(&mut self, cell: Cell) -> Result<u64, SinkRefusal>
-        ensures answer { λ r. ⌜ Tells (inGrid edge cell ≡ true) (parts (now (self .entry)) .cell cell) r ⌝ }
-        ensures same { λ r. ⌜ parts (now (self .exit)) ≡ parts (now (self .entry)) ⌝ }
-        ensures state { λ r. ⌜ kept (now (self .entry)) (now (self .exit)) ⌝ };
+        ensures { λ r. ⌜ Asking parts kept (inGrid edge cell ≡ true) (parts (now (self .entry)) .cell cell) (now (self .entry)) (now (self .exit)) r ⌝ };
 
     // Hands out the text and empties it.
     fn drain(&mut self, out: &mut [u8]) -> Result<usize, SinkRefusal>
-        ensures hands { λ r. ⌜ HandsOut (text (now (self .entry))) (now (out .entry)) (now (out .exit)) r ⌝ }
-        ensures state { λ r. ⌜ Cases r (λ _. Keeps (parts (now (self .entry))) (parts (now (self .exit))) × (text (now (self .exit)) ≡ [])) (λ _. (parts (now (self .exit)) ≡ parts (now (self .entry))) × kept (now (self .entry)) (now (self .exit))) ⌝ }
-        ensures idle { λ r. ⌜ (text (now (self .entry)) ≡ [] → (parts (now (self .exit)) ≡ parts (now (self .entry))) × kept (now (self .entry)) (now (self .exit))) ⌝ };
+        ensures { λ r. ⌜ Draining parts text kept (now (self .entry)) (now (self .exit)) (now (out .entry)) (now (out .exit)) r ⌝ };
 }

@@ -24,9 +24,10 @@ sumLine count volume = lineText Sum (overMaterials count) (overMaterials volume 
 unfoldable pub billText : (ℕ → ℕ) → (ℕ → ℕ) → List ℕ
 billText count volume = upTo (materialLine count volume) materials ++ sumLine count volume
 
--- what a sink means whose one cell is the site
+-- the volume in the cell of a sink whose one cell is the site
 abbrev pub siteCell : Tallies → Cell → ℕ
 siteCell t d = cond (inGrid site d) (overMaterials (volumeHeld t)) 0
 
+-- the four parts of a bill: there is always room
 abbrev pub billParts : Bill → Parts
 billParts b = record { count = countOf (b .tallies); volume = volumeHeld (b .tallies); cell = siteCell (b .tallies); room = λ _. true }

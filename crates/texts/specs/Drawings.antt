@@ -1,4 +1,4 @@
--- The OBJ drawing: the lines of a block, and what the drawing means as a sink.
+-- The OBJ lines of a block.
 use mathlib.Core.Path.{_≡_}
 use mathlib.Core.Bool.{Bool, cond}
 use mathlib.Core.List.{List, [], _∷_, _++_}
@@ -27,6 +27,7 @@ faces = (1 ∷ 3 ∷ 4 ∷ 2 ∷ []) ∷ (5 ∷ 6 ∷ 8 ∷ 7 ∷ []) ∷ (1 ∷
 abbrev pub cornerNumber : ℕ → ℕ → ℕ → ℕ
 cornerNumber d f k = getD (getD faces f []) k 0 + 8 * d
 
+-- the line of face f after d drawn blocks
 abbrev pub faceLine : ℕ → ℕ → List ℕ
 faceLine d f = lineText Face (cornerNumber d f 0) (cornerNumber d f 1 ∷ cornerNumber d f 2 ∷ cornerNumber d f 3 ∷ [])
 

@@ -11,7 +11,7 @@ use Rattle.texts.specs.declared.line.Line.{Line}
 use Rattle.texts.specs.declared.line.LineKind.{LineKind}
 use Rattle.texts.specs.declared.line.LineKind.the-variants.{Group, Vertex, Face, Material, Sum}
 
--- how a line of each kind begins and ends; 10 is the line feed
+-- how a line of each kind begins
 abbrev pub startOf : LineKind → List ℕ
 startOf Group = codes "g m"
 startOf Vertex = codes "v "
@@ -19,6 +19,7 @@ startOf Face = codes "f "
 startOf Material = codes "(m"
 startOf Sum = codes "(total "
 
+-- how it ends; 10 is the line feed, 41 the closing bracket
 abbrev pub endOf : LineKind → List ℕ
 endOf Group = 10 ∷ []
 endOf Vertex = 10 ∷ []

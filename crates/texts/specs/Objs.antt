@@ -20,7 +20,7 @@ use Rattle.texts.specs.Bills.{siteCell}
 abbrev pub objText : ObjText → List ℕ
 objText s = take (s .used) (now (s .out))
 
--- there is room exactly if the block's lines fit in the unwritten rest of the buffer
+-- the four parts of a drawing: there is room exactly if the block's lines fit in the unwritten rest of the buffer
 abbrev pub objParts : ObjText → Parts
 objParts s = record { count = countOf (s .tallies); volume = volumeHeld (s .tallies); cell = siteCell (s .tallies); room = λ b. leb (length (blockText (drawnOf (s .tallies)) b)) (length (now (s .out)) - s .used) }
 

@@ -23,6 +23,9 @@ use sinks::refusal::SinkRefusal;
 use sinks::sink::Sink;
 use sinks::tally::Tallies;
 
+// The edge of the site.
+pub(crate) const SITE: u32 = 16_384;
+
 fn material_line(tallies: &Tallies, m: usize) -> Option<Line>
     ensures { λ r. ⌜ textOf r ≡ materialLine (countOf (now (tallies .entry))) (volumeHeld (now (tallies .entry))) m ⌝ }
 {
@@ -99,14 +102,14 @@ impl Bill {
 pub(crate) fn site_cell(tallies: &Tallies, cell: Cell) -> Result<u64, SinkRefusal>
     ensures { λ r. ⌜ Tells (inGrid site cell ≡ true) (siteCell (now (tallies .entry)) cell) r ⌝ }
 {
-    if !in_grid(16384, cell) {
+    if !in_grid(SITE, cell) {
         return Err(SinkRefusal::NoSuch);
     }
     Ok(tallies.volume_all())
 }
 
 pub impl Sink for Bill as BillSink {
-    const EDGE: u32 = 16384;
+    const EDGE: u32 = SITE;
 
     ghost edge = { site };
 

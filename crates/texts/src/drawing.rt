@@ -10,6 +10,7 @@ ghost use Rattle.geometry.specs.declared.block.Block.{Block};
 ghost use Rattle.sinks.specs.Meaning.{Empty, PowerOfTwo, limit};
 ghost use Rattle.texts.specs.Drawings.{blockText};
 ghost use Rattle.texts.specs.Objs.{objText, objParts, Drawn, Begun};
+use crate::bill::SITE;
 use crate::bill::site_cell;
 use crate::bytes::hand_out;
 use crate::obj_lines::block_at;
@@ -32,7 +33,7 @@ impl<'b> ObjText<'b> {
     pub fn new(out: &'b mut [u8]) -> ObjText<'b>
         ensures empty { λ r. ⌜ Empty (objParts r) ⌝ }
         ensures none { λ r. ⌜ r .used ≡ 0 ⌝ }
-        ensures out { λ r. ⌜ now (r .out) ≡ now (out .entry) ⌝ }
+        ensures out { λ r. ⌜ now (r .out) ≡ now (out .entry) ⌝ ∗ ⌜ name (r .out) ≡ name (out .entry) ⌝ }
     {
         ObjText {
             out,
@@ -58,7 +59,7 @@ fn fits(drawn: u64, block: Block, rest: usize) -> bool
 }
 
 pub impl<'b> Sink for ObjText<'b> as ObjTextSink {
-    const EDGE: u32 = 16384;
+    const EDGE: u32 = SITE;
 
     ghost edge = { site };
 

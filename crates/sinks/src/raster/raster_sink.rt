@@ -2,12 +2,12 @@
 ghost use mathlib.Core.Path.{_≡_};
 ghost use mathlib.Core.Bool.{true};
 ghost use mathlib.Core.List.{[]};
-ghost use Prim.Native.Nat.{ℕ, _+_, _-_, _*_, _/_, _^_, _<_, _≤_};
+ghost use Prim.Native.Nat.{ℕ, _+_, _%_, _<_, _≤_};
 ghost use lib.ListN.{length, getD};
 ghost use Rattle.geometry.specs.declared.block.Block.{Block};
 ghost use Rattle.geometry.specs.declared.cell.Cell.{Cell};
 ghost use Rattle.sinks.specs.Meaning.{Empty, inGrid, limit};
-ghost use Rattle.sinks.specs.Rasters.{cellAt, placeOf, shareAt, Shared, firstPlace, lastPlace, rasterParts};
+ghost use Rattle.sinks.specs.Rasters.{cellAt, placeOf, shareAt, firstOf, afterOf, SharedIn, SmallFrom, rasterParts};
 use super::Raster;
 use crate::grid::in_grid;
 use crate::refusal::SinkRefusal;
@@ -16,6 +16,7 @@ use crate::tally::Tallies;
 use geometry::block::Block;
 use geometry::cell::Cell;
 use geometry::cuboid::Cuboid;
+use geometry::span::Span;
 
 // The cell that is kept at a place.
 fn cell_at(n: u32) -> Cell
@@ -44,26 +45,48 @@ fn share_of(n: u32, cuboid: Cuboid) -> u64
     cuboid.shared(1024, cell_at(n))
 }
 
-// The first place of the planes that a box reaches, and the place after their last.
-fn reach(cuboid: Cuboid) -> (u32, u32)
-    ensures first { λ r. ⌜ r .0 ≡ firstPlace cuboid ⌝ }
-    ensures last { λ r. ⌜ r .1 ≡ lastPlace cuboid ⌝ }
-    ensures inside { λ r. ⌜ r .0 ≤ r .1 ⌝ ∗ ⌜ r .1 ≤ 4096 ⌝ }
+// The first stretch of the grid that a stretch reaches, and the one after the last.
+fn reach(span: Span) -> (u32, u32)
+    ensures first { λ r. ⌜ r .0 ≡ firstOf span ⌝ }
+    ensures after { λ r. ⌜ r .1 ≡ afterOf span ⌝ }
+    ensures inside { λ r. ⌜ r .0 ≤ r .1 ⌝ ∗ ⌜ r .1 ≤ 16 ⌝ }
 {
-    let at = cuboid.z.at.0;
-    let end = at + cuboid.z.size.0;
-    (at / 1024 * 256, ((end - 1) / 1024 + 1) * 256)
+    let at = span.at.0;
+    (at / 1024, (at + span.size.0 - 1) / 1024 + 1)
 }
 
-// Adds to each cell the volume that it shares with the box.
-fn add_box(cells: &mut [u64], cuboid: Cuboid)
-    requires { ⌜ length (now cells) ≡ 4096 ⌝ ∗ ⌜ ((n : ℕ) → getD (now cells) n 0 ≤ limit) ⌝ }
-    ensures { λ _. ⌜ Shared cuboid (now (cells .entry)) (now (cells .exit)) ⌝ }
+// Adds to each of the 16 cells of a row the volume that it shares with the box.
+fn add_row(cells: &mut [u64], cuboid: Cuboid, begin: u32)
+    requires { ⌜ length (now cells) ≡ 4096 ⌝ ∗ ⌜ begin + 16 ≤ 4096 ⌝ ∗ ⌜ begin % 16 ≡ 0 ⌝ ∗ ⌜ SmallFrom begin (now cells) ⌝ }
+    ensures { λ _. ⌜ SharedIn begin (begin + 16) cuboid (now (cells .entry)) (now (cells .exit)) ⌝ }
 {
-    let (first, last) = reach(cuboid);
-    for n in first..last {
+    let (first, after) = reach(cuboid.x);
+    for i in first..after {
+        let n = begin + i;
         let share = share_of(n, cuboid);
         cells[n as usize] += share;
+    }
+}
+
+// The same for the 16 rows of a plane.
+fn add_plane(cells: &mut [u64], cuboid: Cuboid, begin: u32)
+    requires { ⌜ length (now cells) ≡ 4096 ⌝ ∗ ⌜ begin + 256 ≤ 4096 ⌝ ∗ ⌜ begin % 256 ≡ 0 ⌝ ∗ ⌜ SmallFrom begin (now cells) ⌝ }
+    ensures { λ _. ⌜ SharedIn begin (begin + 256) cuboid (now (cells .entry)) (now (cells .exit)) ⌝ }
+{
+    let (first, after) = reach(cuboid.y);
+    for j in first..after {
+        add_row(cells, cuboid, begin + 16 * j);
+    }
+}
+
+// The same for all planes; cells that the box does not reach are not touched.
+fn add_box(cells: &mut [u64], cuboid: Cuboid)
+    requires { ⌜ length (now cells) ≡ 4096 ⌝ ∗ ⌜ SmallFrom 0 (now cells) ⌝ }
+    ensures { λ _. ⌜ SharedIn 0 4096 cuboid (now (cells .entry)) (now (cells .exit)) ⌝ }
+{
+    let (first, after) = reach(cuboid.z);
+    for k in first..after {
+        add_plane(cells, cuboid, 256 * k);
     }
 }
 
@@ -113,7 +136,7 @@ pub impl Sink for Raster as RasterSink {
     }
 
     fn cell(&mut self, cell: Cell) -> Result<u64, SinkRefusal> {
-        if !in_grid(1024, cell) {
+        if !in_grid(Self::EDGE, cell) {
             return Err(SinkRefusal::NoSuch);
         }
         Ok(self.cells[place_of(cell)])

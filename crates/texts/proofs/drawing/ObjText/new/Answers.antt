@@ -10,5 +10,5 @@ returns c = record {
     cell = site-none (c .new .result) (λ m. c .new .ensures m .1);
   };
   none = refl;
-  out = refl;
+  out = (refl, refl);
 }
