@@ -1,0 +1,4 @@
+pub mod Forms
+pub mod Wants
+pub mod States
+pub mod Orders

@@ -1,0 +1,3 @@
+pub mod Balanced
+pub mod Levels
+pub mod Accepted

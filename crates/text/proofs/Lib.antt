@@ -1,0 +1,9 @@
+pub mod Cuts
+pub mod Lexed
+pub mod Found
+pub mod Scanned
+pub mod Reading
+pub mod LaidOut
+pub mod Blank
+pub mod Formed
+pub mod Bracketing
