@@ -17,7 +17,8 @@ use Rattle.std.specs.declared.option.Option.the-variants.{Some, None}
 use Rattle.text.specs.Tokens.{Lexeme, opening, closing, number, word}
 use Rattle.text.specs.Words.{isAxis}
 use Rattle.grammar.specs.Forms.{Axis, x-axis, y-axis, z-axis, Guard, guard, Part, fix, float, Body, make, refer, tile, split, Form, material, rule, lot, axisText, spellGuards, spellPart, spellParts, spellBody, spellForm, spell, Fits, Begins, plain, FirstStuck}
-use Rattle.grammar.specs.Wants.{Want, form, head, name, num, range, axis, shut, items, item, parts, more, part, corner, size, site, weightLimit, lowOf, headWants, itemWants, partWants, atOpening, atClosing, atNumber, atWord, expand, onto, step, run, firstAt, misplaced}
+use Rattle.geometry.specs.Limits.{site}
+use Rattle.grammar.specs.Wants.{Want, form, head, name, num, range, axis, shut, items, item, parts, more, part, corner, size, weightLimit, lowOf, headWants, itemWants, partWants, atOpening, atClosing, atNumber, atWord, expand, onto, step, run, firstAt, misplaced}
 use Rattle.grammar.specs.declared.state.FileKind.{FileKind}
 use Rattle.grammar.specs.declared.state.FileKind.the-variants.{Rules, Lots}
 use Rattle.grammar.specs.declared.state.Naming.{Naming}

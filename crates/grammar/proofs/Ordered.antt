@@ -15,7 +15,8 @@ use Rattle.text.specs.Tokens.{Lexeme, opening, closing, number, word}
 use Rattle.grammar.proofs.Accepts.{then}
 use Rattle.grammar.specs.Forms.{Axis, x-axis, y-axis, z-axis, Guard, guard, Part, fix, float, Body, make, refer, tile, split, Form, material, rule, lot, axisText, spellGuards, spellPart, spellParts, spellBody, spell, Fits, plain}
 use Rattle.grammar.specs.Orders.{orderedGuards, orderedPart, orderedParts, orderedBody, ordered, Tells, FirstWrong}
-use Rattle.grammar.specs.Wants.{Want, form, head, name, num, range, axis, shut, items, parts, more, size, corner, site, leastLength, weightLimit, lowOf, onto, step, firstAt, wrongBy, passes}
+use Rattle.geometry.specs.Limits.{site, least}
+use Rattle.grammar.specs.Wants.{Want, form, head, name, num, range, axis, shut, items, parts, more, size, corner, weightLimit, lowOf, onto, step, firstAt, wrongBy, passes}
 use Rattle.grammar.specs.declared.state.FileKind.{FileKind}
 use Rattle.grammar.specs.declared.state.FileKind.the-variants.{Rules, Lots}
 use Rattle.grammar.specs.declared.state.Naming.{Naming}
@@ -118,11 +119,11 @@ module _ (N : ℕ × ℕ → List ℕ → Bool) (M : Naming → List ℕ → Boo
   ok-axis z-axis xs us = refl
 
   ok-part : (p : Part) (xs : List Want) (us : List Lexeme) → ok (more ∷ xs) (spellPart p us) ≡ (orderedPart N M p && ok (more ∷ xs) us)
-  ok-part (fix n w) xs us = ok-both (leastLength, site) Rule n w (more ∷ xs) us
+  ok-part (fix n w) xs us = ok-both (least, site) Rule n w (more ∷ xs) us
   ok-part (float n w) xs us = ok-both (1, weightLimit) Rule n w (more ∷ xs) us
 
   ok-first : (p : Part) (xs : List Want) (us : List Lexeme) → ok (parts ∷ xs) (spellPart p us) ≡ (orderedPart N M p && ok (more ∷ xs) us)
-  ok-first (fix n w) xs us = ok-both (leastLength, site) Rule n w (more ∷ xs) us
+  ok-first (fix n w) xs us = ok-both (least, site) Rule n w (more ∷ xs) us
   ok-first (float n w) xs us = ok-both (1, weightLimit) Rule n w (more ∷ xs) us
 
   ok-more : (ps : List Part) (xs : List Want) (us : List Lexeme)
@@ -136,7 +137,7 @@ module _ (N : ℕ × ℕ → List ℕ → Bool) (M : Naming → List ℕ → Boo
   ok-body k (make w) xs us = ok-name Material w (shut ∷ xs) (closing ∷ us)
   ok-body k (refer w) xs us = ok-name Rule w (shut ∷ xs) (closing ∷ us)
   ok-body k (tile a n w) xs us =
-      ok-axis a (size ∷ name Rule ∷ shut ∷ xs) (number n ∷ word w ∷ closing ∷ us) ∙ ok-both (leastLength, site) Rule n w xs us
+      ok-axis a (size ∷ name Rule ∷ shut ∷ xs) (number n ∷ word w ∷ closing ∷ us) ∙ ok-both (least, site) Rule n w xs us
   ok-body k (split a p ps) xs us =
       ok-axis a (parts ∷ xs) (spellPart p (spellParts ps (closing ∷ us)))
       ∙ (ok-first p xs (spellParts ps (closing ∷ us))
@@ -174,7 +175,7 @@ module _ (N : ℕ × ℕ → List ℕ → Bool) (M : Naming → List ℕ → Boo
   ok-form Lots (material w) h = absurd h
   ok-form Lots (rule w gs b) h = absurd h
   ok-form Lots (lot px py pz sx sy sz w) h =
-      chain (N (0, site - 1) px) (N (0, site - 1) py) (N (0, site - 1) pz) (N (leastLength, site) sx) (N (leastLength, site) sy) (N (leastLength, site) sz)
+      chain (N (0, site - 1) px) (N (0, site - 1) py) (N (0, site - 1) pz) (N (least, site) sx) (N (least, site) sy) (N (least, site) sz)
       (M Rule w)
 
   pub tells : (k : FileKind) (ps : List (Lexeme × ℕ)) (r : Option ℕ) → r ≡ firstAt (wrongBy N M) (form k ∷ []) ps → Tells (ordered N M) k ps r

@@ -9,7 +9,8 @@ use Rattle.std.specs.declared.option.Option.the-variants.{Some, None}
 use Rattle.text.specs.Tokens.{Lexeme}
 use Rattle.text.specs.Words.{goodName}
 use Rattle.grammar.specs.Forms.{Guard, guard, Part, fix, float, Body, make, refer, tile, split, Form, material, rule, lot, spell, plain, Fits}
-use Rattle.grammar.specs.Wants.{Want, leastLength, site, weightLimit, lowOf, inside, run, passes}
+use Rattle.geometry.specs.Limits.{site, least}
+use Rattle.grammar.specs.Wants.{Want, weightLimit, lowOf, inside, run, passes}
 use Rattle.grammar.specs.declared.state.FileKind.{FileKind}
 use Rattle.grammar.specs.declared.state.Naming.{Naming}
 use Rattle.grammar.specs.declared.state.Naming.the-variants.{Declared, Own, Material, Rule}
@@ -23,7 +24,7 @@ module _ (N : ℕ × ℕ → List ℕ → Bool) (M : Naming → List ℕ → Boo
 
   -- a length or a weight, and a rule's name
   abbrev pub orderedPart : Part → Bool
-  orderedPart (fix n w) = N (leastLength, site) n && M Rule w
+  orderedPart (fix n w) = N (least, site) n && M Rule w
   orderedPart (float n w) = N (1, weightLimit) n && M Rule w
 
   -- each part
@@ -35,7 +36,7 @@ module _ (N : ℕ × ℕ → List ℕ → Bool) (M : Naming → List ℕ → Boo
   abbrev pub orderedBody : Body → Bool
   orderedBody (make w) = M Material w
   orderedBody (refer w) = M Rule w
-  orderedBody (tile a n w) = N (leastLength, site) n && M Rule w
+  orderedBody (tile a n w) = N (least, site) n && M Rule w
   orderedBody (split a p ps) = orderedPart p && orderedParts ps
 
   -- the whole form
@@ -44,7 +45,7 @@ module _ (N : ℕ × ℕ → List ℕ → Bool) (M : Naming → List ℕ → Boo
   ordered (rule w gs b) = M Own w && (orderedGuards gs && orderedBody b)
   ordered (lot px py pz sx sy sz w) =
       N (0, site - 1) px && (N (0, site - 1) py && (N (0, site - 1) pz
-      && (N (leastLength, site) sx && (N (leastLength, site) sy && (N (leastLength, site) sz && M Rule w)))))
+      && (N (least, site) sx && (N (least, site) sy && (N (least, site) sz && M Rule w)))))
 
 -- every number of the form is well formed and in its range
 abbrev pub goodNumbers : Form → Bool

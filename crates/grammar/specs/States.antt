@@ -3,7 +3,8 @@ use Prim.Native.Nat.{ℕ}
 use mathlib.Core.List.{List, [], _∷_}
 use Rattle.std.specs.declared.option.Option.{Option}
 use Rattle.std.specs.declared.option.Option.the-variants.{Some, None}
-use Rattle.grammar.specs.Wants.{Want, form, head, name, num, range, axis, shut, items, item, parts, more, part, corner, size, site, weightLimit}
+use Rattle.geometry.specs.Limits.{site}
+use Rattle.grammar.specs.Wants.{Want, form, head, name, num, range, axis, shut, items, item, parts, more, part, corner, size, weightLimit}
 use Rattle.grammar.specs.declared.state.Naming.the-variants.{Declared, Own, Material, Rule}
 use Rattle.grammar.specs.declared.state.State.{State}
 use Rattle.grammar.specs.declared.state.State.the-variants.{Start, Head, MaterialName, RuleName, Items, Item, GuardAxis, GuardLow, GuardHigh, GuardEnd, BodyName, BodyEnd, RepeatAxis, RepeatTile, SplitAxis, Parts, Part, PartLength, PartWeight, PartName, PartEnd, More, CornerX, CornerY, CornerZ, SizeX, SizeY, SizeZ, LotName, FormEnd, Done}

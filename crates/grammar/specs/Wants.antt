@@ -8,6 +8,7 @@ use Rattle.std.specs.Options.{isSome, valueOr}
 use Rattle.std.specs.shelf.Text.{sameBytes}
 use Rattle.std.specs.declared.option.Option.{Option}
 use Rattle.std.specs.declared.option.Option.the-variants.{Some, None}
+use Rattle.geometry.specs.Limits.{site, least}
 use Rattle.text.specs.Numbers.{numberIn}
 use Rattle.text.specs.Tokens.{Lexeme, opening, closing, number, word}
 use Rattle.text.specs.Words.{isAxis, goodName}
@@ -16,14 +17,6 @@ use Rattle.grammar.specs.declared.state.FileKind.{FileKind}
 use Rattle.grammar.specs.declared.state.FileKind.the-variants.{Rules, Lots}
 use Rattle.grammar.specs.declared.state.Naming.{Naming}
 use Rattle.grammar.specs.declared.state.Naming.the-variants.{Declared, Own, Material, Rule}
-
--- the least length that can be cut: of sizes, fixed lengths and tiles
-abbrev pub leastLength : ℕ
-leastLength = 1
-
--- the edge of the site
-abbrev pub site : ℕ
-site = 16384
 
 -- the greatest weight
 abbrev pub weightLimit : ℕ
@@ -52,7 +45,7 @@ corner = num 0 (site - 1)
 
 -- a size, a fixed length or a tile
 abbrev pub size : Want
-size = num leastLength site
+size = num least site
 
 -- the least HIGH after the LOW w: the LOW where it is a good one
 abbrev pub lowOf : List ℕ → ℕ

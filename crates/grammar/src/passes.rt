@@ -11,10 +11,10 @@ ghost use Rattle.grammar.specs.Wants.{Want, form, firstAt, misplaced, badNumbe
 use crate::state::FileKind;
 use crate::state::Naming;
 use crate::state::State;
-use crate::steps::LEAST_LENGTH;
-use crate::steps::SITE;
 use crate::steps::WEIGHT_LIMIT;
 use crate::steps::advance;
+use geometry::limits::LEAST;
+use geometry::limits::SITE;
 use text::lines::Line;
 use text::numbers::number_in;
 use text::tokens::Token;
@@ -69,10 +69,10 @@ pub fn wanted_range(state: State) -> Option<(u32, u32)>
     match state {
         State::GuardLow(_) => Some((1, SITE)),
         State::GuardHigh(_, low) => Some((low, SITE)),
-        State::RepeatTile | State::PartLength => Some((LEAST_LENGTH, SITE)),
+        State::RepeatTile | State::PartLength => Some((LEAST, SITE)),
         State::PartWeight => Some((1, WEIGHT_LIMIT)),
         State::CornerX | State::CornerY | State::CornerZ => Some((0, SITE - 1)),
-        State::SizeX | State::SizeY | State::SizeZ => Some((LEAST_LENGTH, SITE)),
+        State::SizeX | State::SizeY | State::SizeZ => Some((LEAST, SITE)),
         _ => None,
     }
 }

@@ -11,15 +11,12 @@ ghost use Rattle.grammar.specs.Wants.{step, onto, lowOf, headWants, itemWants,
 use crate::state::FileKind;
 use crate::state::Naming;
 use crate::state::State;
+use geometry::limits::SITE;
 use text::numbers::number_in;
 use text::tokens::Token;
 use text::words::is_axis;
 use text::words::same;
 
-// The least length that can be cut: of sizes, fixed lengths and tiles.
-pub const LEAST_LENGTH: u32 = 1;
-// The edge of the site.
-pub const SITE: u32 = 16384;
 // The greatest weight.
 pub const WEIGHT_LIMIT: u32 = 1000;
 

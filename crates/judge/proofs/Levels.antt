@@ -15,7 +15,8 @@ use Rattle.text.specs.Findings.{levels}
 use Rattle.text.specs.Tokens.{Lexeme, opening, closing, number, word}
 use Rattle.text.specs.Words.{isAxis}
 use Rattle.grammar.proofs.Accepts.{never, then}
-use Rattle.grammar.specs.Wants.{Want, form, head, name, num, range, axis, shut, items, item, parts, more, part, lowOf, site, atOpening, atClosing, atNumber, atWord, headWants, itemWants, partWants, expand, onto, run}
+use Rattle.geometry.specs.Limits.{site}
+use Rattle.grammar.specs.Wants.{Want, form, head, name, num, range, axis, shut, items, item, parts, more, part, lowOf, atOpening, atClosing, atNumber, atWord, headWants, itemWants, partWants, expand, onto, run}
 use Rattle.grammar.specs.declared.state.FileKind.{FileKind}
 use Rattle.grammar.specs.declared.state.FileKind.the-variants.{Rules, Lots}
 use Rattle.judge.proofs.Balanced.{balanced}

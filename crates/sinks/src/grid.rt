@@ -2,9 +2,7 @@
 ghost use mathlib.Core.Path.{_≡_};
 ghost use Rattle.sinks.specs.Meaning.{inGrid};
 use geometry::cell::Cell;
-
-// The edge of the site.
-const SITE: u32 = 16_384;
+use geometry::limits::SITE;
 
 // Whether a grid of that edge has the cell.
 pub fn in_grid(edge: u32, cell: Cell) -> bool

@@ -18,13 +18,11 @@ use crate::lines::lines_at;
 use crate::lines::lines_len;
 use geometry::block::Block;
 use geometry::cell::Cell;
+use geometry::limits::SITE;
 use sinks::grid::in_grid;
 use sinks::refusal::SinkRefusal;
 use sinks::sink::Sink;
 use sinks::tally::Tallies;
-
-// The edge of the site.
-pub(crate) const SITE: u32 = 16_384;
 
 fn material_line(tallies: &Tallies, m: usize) -> Option<Line>
     ensures { λ r. ⌜ textOf r ≡ materialLine (countOf (now (tallies .entry))) (volumeHeld (now (tallies .entry))) m ⌝ }
