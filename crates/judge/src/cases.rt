@@ -2,8 +2,6 @@
 ghost use Rattle.judge.specs.Cases.{Table};
 
 // The definitions give the table of worked cases.
-pub fn worked_cases() -> u8
+pub fn worked_cases()
     ensures { λ _. ⌜ Table ⌝ }
-{
-    0
-}
+{}

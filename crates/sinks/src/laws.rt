@@ -3,31 +3,24 @@ ghost use Rattle.sinks.specs.Laws.{Blocks-told, Grids-add-up, Cells-add-up, Si
 use crate::sink::Sink;
 
 // Counts, volumes and cells have grown by the sums over the blocks.
-pub fn blocks_told<S: Sink>() -> u8
+pub fn blocks_told<S: Sink>()
     ensures { λ _. ⌜ Blocks-told (S·Sink .edge) (S·Sink .parts) ⌝ }
-{
-    0
-}
+{}
 
 // The cells of any grid share with blocks, together, the blocks' volume.
-pub fn grids_add_up() -> u8
+pub fn grids_add_up()
     ensures { λ _. ⌜ Grids-add-up ⌝ }
-{
-    0
-}
+{}
 
 // The cells of a sink that began empty add up to all its volumes.
-pub fn cells_add_up<S: Sink>() -> u8
+pub fn cells_add_up<S: Sink>()
     ensures { λ _. ⌜ Cells-add-up (S·Sink .edge) (S·Sink .parts) ⌝ }
 {
     let _ = S::edge_of();
-    0
 }
 
 // Two sinks that began empty and took the same blocks tell the same; the cells of the finer one that lie in a cell of the
 // coarser one add up to it.
-pub fn sinks_agree<S: Sink, T: Sink>() -> u8
+pub fn sinks_agree<S: Sink, T: Sink>()
     ensures { λ _. ⌜ Sinks-agree (S·Sink .edge) (S·Sink .parts) (T·Sink .edge) (T·Sink .parts) ⌝ }
-{
-    0
-}
+{}
