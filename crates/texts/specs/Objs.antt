@@ -6,10 +6,14 @@ use Prim.Native.Nat.{ℕ, _+_, _-_}
 use denote.Ref.{now, name}
 use lib.Dec.{eqb, leb}
 use lib.ListN.{length, take, drop}
+use Rattle.std.specs.Options.{Cases as BySome}
 use Rattle.std.specs.declared.result.Result.{Result}
-use Rattle.std.specs.declared.result.Result.the-variants.{Ok, Err}
+use Rattle.std.specs.declared.result.Result.the-variants.{Err}
+use Rattle.geometry.specs.Limits.{site}
 use Rattle.geometry.specs.declared.block.Block.{Block}
-use Rattle.sinks.specs.Meaning.{Parts, Chain, HandsOut}
+use Rattle.sinks.specs.Meaning.{Parts, Chain, Empty, HandsOut}
+use Rattle.sinks.specs.Laws.{Offers}
+use Rattle.sinks.specs.declared.offers.Offered.{Offered}
 use Rattle.sinks.specs.declared.refusal.SinkRefusal.{SinkRefusal}
 use Rattle.sinks.specs.Tallied.{countOf, volumeHeld, drawnOf}
 use Rattle.texts.specs.declared.drawing.ObjText.{ObjText}
@@ -46,7 +50,22 @@ blocksText d (b ∷ bs) = blockText d b ++ blocksText (d + cond (eqb (b .materia
 abbrev pub Lines-join : Type 0
 Lines-join = (s t : ObjText) (bs : List Block) → Chain Drawn s bs t → objText t ≡ objText s ++ blocksText (drawnOf (s .tallies)) bs
 
--- all of a text was handed out, or there was a refusal and the buffer is as it was
-abbrev pub Sheet : List ℕ → List ℕ → List ℕ → Result ℕ SinkRefusal → Type 0
-Sheet text buffer after (Ok n) = HandsOut text buffer after (Ok n)
-Sheet text buffer after (Err e) = after ≡ buffer
+-- blocks were offered to a drawing, and then its text was handed out; the refusal of a block is passed up and leaves the buffer
+pub record Drained (s : ObjText) (blocks : List Block) (buffer after : List ℕ) (r : Result ℕ SinkRefusal) : Type 0 where
+  pub last : ObjText
+  pub offered : Offered
+  pub offers : Offers site objParts Drawn (λ u v. v ≡ u) s last blocks offered
+  pub answer : BySome (offered .refusal) (HandsOut (objText last) buffer after r) (λ e. (r ≡ Err e) × (after ≡ buffer))
+
+-- blocks were offered to a sink that began so, and then a text of them was handed out; the refusal of a block is passed up and leaves the buffer
+pub record Sheet {S : Type 0} (edge : ℕ) (parts : S → Parts) (took : S → Block → S → Type 0) (begins : S → Type 0) (blocks : List Block) (text buffer after : List ℕ) (r : Result ℕ SinkRefusal) : Type 0 where
+  pub first : S
+  pub last : S
+  pub offered : Offered
+  pub begun : begins first
+  pub offers : Offers edge parts took (λ u v. v ≡ u) first last blocks offered
+  pub answer : BySome (offered .refusal) (HandsOut text buffer after r) (λ e. (r ≡ Err e) × (after ≡ buffer))
+
+-- a drawing that begins in that memory
+abbrev pub BeginsIn : List ℕ → ObjText → Type 0
+BeginsIn memory s = Empty (objParts s) × (s .used ≡ 0) × (now (s .out) ≡ memory)
