@@ -8,7 +8,7 @@ use Rattle.rows.specs.declared.part.Part.{Part}
 use Rattle.rows.specs.declared.parts.Parts.{Parts}
 use Rattle.rows.specs.declared.tile.Tile.{Tile}
 use Rattle.text.specs.Takes.{open_at}
-use Rattle.text.specs.Tokens.{Lexeme, opening, closing, number, word, tokens_left}
+use Rattle.text.specs.Tokens.{Lexeme, opening, closing, word, tokens_left}
 use Rattle.text.specs.declared.placed.Placed.{Placed}
 use Rattle.text.specs.declared.tokens.Tokens.{Tokens}
 use Rattle.grammar.specs.Forms.{Axis as AxisWord, Part as PartForm, axis_text, spell_parts, spell_body, plain}

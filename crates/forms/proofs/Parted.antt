@@ -1,7 +1,7 @@
 -- One part, as it is taken.
 use Rattle.std.proofs.Common.{◌≡◌, ℕ, ◌∷◌, Some, sym, ap, ◌∙◌, subst}
 use Rattle.rows.specs.declared.size.Size.{Size}
-use Rattle.text.specs.Tokens.{Lexeme, closing, number, tokens_left}
+use Rattle.text.specs.Tokens.{Lexeme, closing, tokens_left}
 use Rattle.text.specs.declared.placed.Placed.{Placed}
 use Rattle.text.specs.declared.tokens.Tokens.{Tokens}
 use Rattle.forms.specs.Pieces.{kind_at, low_of_kind, high_of_kind, size_of, PartTo}

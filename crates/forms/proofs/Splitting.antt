@@ -15,7 +15,7 @@ use Rattle.text.specs.declared.placed.Placed.{Placed}
 use Rattle.text.specs.declared.tokens.Tokens.{Tokens}
 use Rattle.grammar.specs.Forms.{Part as PartForm, spell_part, spell_parts, plain}
 use Rattle.grammar.specs.Orders.{ordered_part}
-use Rattle.grammar.specs.Wants.{Want, name, more, part, inside}
+use Rattle.grammar.specs.Wants.{Want, more, part, inside}
 use Rattle.forms.specs.Clean.{clean, Dead}
 use Rattle.forms.specs.Met.{met, is_named}
 use Rattle.forms.specs.Pieces.{kind_at, kind_for, PartTo}

@@ -5,7 +5,7 @@ use Rattle.rows.specs.Sizes.{amount, lowest, highest}
 use Rattle.rows.specs.declared.size.Size.{Size}
 use Rattle.rows.specs.declared.size.Size.TheVariants.{Fix, Float}
 use Rattle.text.specs.Numbers.{number_in}
-use Rattle.text.specs.Tokens.{Lexeme, closing, number, word, tokens_left}
+use Rattle.text.specs.Tokens.{Lexeme, closing, word, tokens_left}
 use Rattle.text.specs.declared.placed.Placed.{Placed}
 use Rattle.text.specs.declared.tokens.Tokens.{Tokens}
 use Rattle.grammar.specs.Wants.{part, part_wants, weight_limit}

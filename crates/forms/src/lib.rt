@@ -1,4 +1,6 @@
 // What single lines of the two files say, read into structs. Names stand apart from the rest, as parts of the file.
+#![tactic(auto)]
+
 mod body;
 mod front;
 mod guards;

@@ -1,17 +1,14 @@
 -- One line more of a list of lots.
-use Rattle.std.proofs.Common.{◌≡◌, ℕ, ◌+◌, ◌-◌, ◌^◌, ◌<◌, ◌≤◌, Bool, true, false, cond, ◌⊎◌, List, [], ◌∷◌, ◌++◌, map, length, Some, None, decimal, Option, sym, refl, ap, ◌∙◌, subst, inl, inr, ⊎_elim, arith}
+use Rattle.std.proofs.Common.{◌≡◌, ℕ, ◌+◌, ◌^◌, ◌<◌, ◌≤◌, true, false, cond, List, [], ◌∷◌, ◌++◌, map, length, Some, None, Option, sym, refl, ap, ◌∙◌, subst, inr, ⊎_elim, arith}
 use Rattle.std.proofs.lemmas.List.{length-append, length-map, map-append}
 use Rattle.std.proofs.lemmas.Bool.{both_ways, cond-true}
-use Rattle.geometry.specs.Limits.{site}
 use Rattle.geometry.specs.declared.cuboid.Cuboid.{Cuboid}
 use Rattle.text.proofs.Blank.{blank_decides}
 use Rattle.text.proofs.Reading.{value_of}
 use Rattle.text.specs.Findings.{or_else}
 use Rattle.text.specs.Lines.{is_blank}
-use Rattle.text.specs.Numbers.{value_from}
 use Rattle.text.specs.Tokens.{Lexeme, tokens_of}
 use Rattle.text.specs.declared.placed.Placed.{Placed}
-use Rattle.grammar.specs.Forms.{Form}
 use Rattle.grammar.specs.declared.state.FileKind.TheVariants.{Lots as LotFile}
 use Rattle.judge.proofs.Accepted.{accepts}
 use Rattle.judge.specs.Files.{some, Spells}
@@ -24,7 +21,7 @@ use Rattle.forms.specs.Told.{lot_of}
 use Rattle.forms.specs.declared.lot.LotLine.{LotLine}
 use Rattle.lots.proofs.Boxed.{box_said_lem}
 use Rattle.lots.proofs.Orderly.{few, parts_of_lem, grown_lot, grown_blank}
-use Rattle.lots.specs.Holds.{left_by, box_read, with_lot, LotAdded, Grown, Fitting, LotPlaced, LotTaken, LineTaken}
+use Rattle.lots.specs.Holds.{left_by, box_read, LotAdded, Grown, Fitting, LotPlaced, LotTaken, LineTaken}
 use Rattle.lots.specs.Lists.{Lots, Box, box_of}
 use Rattle.lots.specs.Verdicts.{most_lots, box_from, box_in, box_said, after, box_fault, too_many, line_fault}
 

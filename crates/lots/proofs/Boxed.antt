@@ -1,6 +1,5 @@
 -- The boxes of lots, as their lines say them.
-use Rattle.std.proofs.Common.{◌≡◌, ℕ, ◌+◌, ◌≤◌, Bool, true, false, not, List, [], ◌∷◌, Some, None, sym, refl, ap, ◌∙◌}
-use Rattle.text.specs.Findings.{or_else}
+use Rattle.std.proofs.Common.{◌≡◌, ℕ, true, false, not, List, [], ◌∷◌, None, sym, refl, ap, ◌∙◌}
 use Rattle.text.specs.Numbers.{value_from}
 use Rattle.text.specs.Tokens.{Lexeme, opening, closing, number, word, tokens_of}
 use Rattle.grammar.specs.Forms.{Form, material, rule, lot, spell, plain, Fits}

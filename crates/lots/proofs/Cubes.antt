@@ -1,10 +1,10 @@
 -- Boxes that share a cube.
-use Rattle.std.proofs.Common.{◌≡◌, ℕ, ◌+◌, ◌<◌, ◌≤◌, max, Bool, true, false, ◌&&◌, ◌||◌, ltb, List, [], ◌∷◌, map, length, get_or, drop, sym, refl, ap, ◌∙◌, arith}
+use Rattle.std.proofs.Common.{◌≡◌, ℕ, ◌+◌, ◌<◌, ◌≤◌, max, Bool, true, false, ◌||◌, List, map, length, get_or, drop, sym, ap, ◌∙◌, arith}
 use Rattle.std.proofs.lemmas.List.{at_drop_more, at_drop_all}
 use Rattle.std.proofs.lemmas.Bool.{and_parts, and_from, ltb-true, lt-ltb}
 use Rattle.geometry.specs.declared.cuboid.Cuboid.{Cuboid}
 use Rattle.lots.specs.Lists.{Box, box_of}
-use Rattle.lots.specs.Shares.{meets, shares, shares_any, Spans, HoldsCube, CommonCube, SharesACube}
+use Rattle.lots.specs.Shares.{meets, shares, shares_any, Spans, SharesACube}
 
 -- on one axis
 common : (a s b t : ℕ) → 1 ≤ s → 1 ≤ t → meets a s b t ≡ true → Spans a s (max a b) × Spans b t (max a b)

@@ -1,22 +1,20 @@
 -- A lot file has no fault just if it is in order.
-use Rattle.std.proofs.Common.{◌≡◌, ℕ, suc, ◌+◌, ◌<◌, ◌≤◌, Bool, true, false, cond, not, ltb, leb, List, [], ◌∷◌, ◌++◌, length, Some, None, Option, sym, refl, ap, ◌∙◌, arith}
+use Rattle.std.proofs.Common.{◌≡◌, ℕ, ◌+◌, ◌≤◌, Bool, true, false, cond, leb, List, [], ◌∷◌, ◌++◌, length, None, Option, sym, refl, ap, ◌∙◌, arith}
 use Rattle.std.proofs.lemmas.Bool.{both_ways, cond-true, cond-false, not-false, leb-false, lt-leb, ltb-false, le-ltb}
 use Rattle.text.proofs.Blank.{blank_decides}
 use Rattle.text.specs.Lines.{is_blank, file_limit, lines_of}
 use Rattle.text.specs.Tokens.{Lexeme, tokens_of}
-use Rattle.text.specs.declared.placed.Placed.{Placed}
 use Rattle.grammar.proofs.Accepts.{never}
 use Rattle.grammar.specs.Forms.{Form, material, rule, lot, spell, plain, Fits}
 use Rattle.grammar.specs.declared.state.FileKind.TheVariants.{Lots}
 use Rattle.judge.proofs.Filed.{Judges, first_none, both_none, found_none, whole_none, in_order, no_verdict}
-use Rattle.judge.specs.Files.{some, column_of, whole_file, Spells, verdict_from, left_after}
+use Rattle.judge.specs.Files.{some, column_of, whole_file}
 use Rattle.judge.specs.Judged.{found, judged}
 use Rattle.judge.specs.declared.faults.Fault.{Fault}
 use Rattle.judge.specs.declared.faults.Fault.TheVariants.{FileTooLong, TooMany, OutOfSite, SharesCube, NoLot}
 use Rattle.lots.proofs.Boxed.{box_said_lem, box_passes}
 use Rattle.lots.specs.Lists.{Box}
-use Rattle.lots.specs.Shares.{shares_any}
-use Rattle.lots.specs.Verdicts.{most_lots, box_in, after, inside_site, at_start, box_fault, too_many, line_fault, no_lot, verdict, box_said, Good, added, LotsInOrder}
+use Rattle.lots.specs.Verdicts.{most_lots, box_in, after, at_start, box_fault, too_many, line_fault, verdict, box_said, Good, added, LotsInOrder}
 
 spelled_some : (ps : List (Lexeme × ℕ)) (f : Form) → plain ps ≡ spell f → some ps ≡ true
 spelled_some (p ∷ ps) f e = refl

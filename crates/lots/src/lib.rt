@@ -1,4 +1,6 @@
 // A lot file read into a list of lots.
+#![tactic(auto)]
+
 pub mod list;
 pub mod questions;
 mod reading;

@@ -1,24 +1,22 @@
 -- One line more of a book.
-use Rattle.std.proofs.Common.{◌≡◌, ℕ, ◌+◌, ◌-◌, ◌*◌, ◌<◌, ◌≤◌, min, Bool, true, false, ◌&&◌, ltb, leb, ◌⊎◌, List, [], ◌∷◌, ◌++◌, map, length, Some, None, Option, sym, refl, ap, ◌∙◌, subst, inl, inr, ⊎_elim, arith}
+use Rattle.std.proofs.Common.{◌≡◌, ℕ, ◌+◌, ◌<◌, Bool, true, false, List, [], ◌∷◌, ◌++◌, length, None, sym, refl, ap, ◌∙◌, inl, inr, ⊎_elim, arith}
 use Rattle.std.proofs.lemmas.List.{length-map}
-use Rattle.std.proofs.lemmas.Bool.{both_ways, and_from, and_parts, lt-ltb, le-leb, ltb-true, cases_Bool}
+use Rattle.std.proofs.lemmas.Bool.{both_ways, and_from, and_parts, lt-ltb, le-leb, ltb-true}
 use Rattle.geometry.specs.Limits.{most_lines}
-use Rattle.rows.specs.Parts.{most_parts}
 use Rattle.text.specs.Lines.{is_blank}
-use Rattle.text.specs.Tokens.{tokens_of}
-use Rattle.grammar.specs.Forms.{Guard, Body, Form, material, rule, lot, spell, plain}
+use Rattle.grammar.specs.Forms.{Guard, Body, Form, material, rule, lot}
 use Rattle.grammar.specs.declared.state.FileKind.TheVariants.{Rules}
 use Rattle.judge.proofs.Accepted.{accepts}
 use Rattle.judge.specs.Files.{some, Spells}
 use Rattle.judge.specs.Judged.{judged, Acceptable}
 use Rattle.bounded.specs.Held.{Pushed}
-use Rattle.forms.specs.Reads.{RuleRead, NoRule, part_count}
+use Rattle.forms.specs.Reads.{RuleRead, NoRule}
 use Rattle.forms.specs.Told.{Name, bytes_of}
 use Rattle.forms.specs.declared.rule.RuleLine.{RuleLine}
 use Rattle.rules.proofs.Orderly.{few, parts_of_lem}
 use Rattle.rules.proofs.Standing.{material_some, rule_none}
 use Rattle.rules.specs.Before.{left_by, declared_in}
-use Rattle.rules.specs.Holds.{parts_of, with_rule, RuleAdded, Grown, has_room, MaterialTaken, RuleTaken, FormTaken, Fitting}
+use Rattle.rules.specs.Holds.{parts_of, with_rule, Grown, has_room, MaterialTaken, RuleTaken, FormTaken, Fitting}
 use Rattle.rules.specs.Pages.{Pages}
 use Rattle.rules.specs.Verdicts.{part_room, all_parts, line_fault, Few}
 

@@ -1,21 +1,20 @@
 -- A book fits while it is read.
-use Rattle.std.proofs.Common.{◌≡◌, ℕ, suc, ◌+◌, ◌-◌, ◌*◌, ◌<◌, ◌≤◌, min, Bool, true, false, ◌&&◌, eqb, leb, List, [], ◌∷◌, ◌++◌, map, length, take, drop, None, sym, refl, ap, ◌∙◌, subst, ⊎_elim, arith}
+use Rattle.std.proofs.Common.{◌≡◌, ℕ, ◌+◌, ◌≤◌, true, List, [], ◌∷◌, ◌++◌, map, length, None, sym, refl, subst, ⊎_elim, arith}
 use Rattle.std.proofs.lemmas.List.{length-map, length-append, length-take, length-drop}
 use Rattle.std.proofs.lemmas.Bool.{and_parts, and_from, leb-true, le-leb, eq-eqb}
 use Rattle.book.specs.Checks.{every}
-use Rattle.geometry.specs.Limits.{most_lines}
 use Rattle.rows.specs.Parts.{most_parts}
-use Rattle.grammar.specs.Forms.{material, rule}
-use Rattle.forms.specs.Told.{Name, bytes_of, body_of, uses_of, used_by, rule_of}
+use Rattle.grammar.specs.Forms.{material}
+use Rattle.forms.specs.Told.{Name, bytes_of, uses_of, rule_of}
 use Rattle.forms.specs.declared.rule.RuleLine.{RuleLine}
 use Rattle.forms.specs.declared.shape.Shape.{Shape}
 use Rattle.forms.specs.declared.shape.Shape.TheVariants.{Make, Use, Repeat, Split}
 use Rattle.rules.proofs.Left.{body_count, few_guards}
 use Rattle.rules.proofs.Orderly.{few, parts_of_lem}
 use Rattle.rules.specs.Before.{left_by}
-use Rattle.rules.specs.Holds.{with_material, with_rule, RuleAdded, MaterialAdded, Grown, parts_of, complete, fits, inside, Fitting}
+use Rattle.rules.specs.Holds.{with_material, with_rule, RuleAdded, MaterialAdded, Grown, complete, fits, inside, Fitting}
 use Rattle.rules.specs.Pages.{Pages}
-use Rattle.rules.specs.Verdicts.{all_parts, line_fault, Few}
+use Rattle.rules.specs.Verdicts.{line_fault, Few}
 
 -- a body uses at most as many names as a split has parts
 uses_few : (s : Shape) → uses_of s ≤ most_parts

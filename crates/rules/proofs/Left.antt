@@ -1,14 +1,13 @@
 -- What a book leaves after it has grown by a line.
-use Rattle.std.proofs.Common.{◌≡◌, ℕ, zero, suc, ◌+◌, ◌*◌, ◌<◌, ◌≤◌, Bool, true, false, cond, ◌&&◌, ltb, leb, List, [], ◌∷◌, ◌++◌, map, length, take, sym, refl, ap, ◌∙◌, subst, ⊎_elim, arith}
+use Rattle.std.proofs.Common.{◌≡◌, ℕ, zero, suc, ◌+◌, ◌≤◌, Bool, ltb, List, [], ◌∷◌, map, length, take, sym, refl, ap, ◌∙◌, ⊎_elim, arith}
 use Rattle.std.proofs.lemmas.List.{length-map, length-take, length-take-le, map-append}
 use Rattle.std.proofs.lemmas.Bool.{lt-ltb}
 use Rattle.text.proofs.Blank.{blank_decides}
 use Rattle.text.specs.Lines.{is_blank}
-use Rattle.text.specs.Tokens.{tokens_of}
-use Rattle.grammar.specs.Forms.{Form, material, rule, make, split, Part}
+use Rattle.grammar.specs.Forms.{material, Part}
 use Rattle.book.specs.declared.guard.Guard.{Guard}
 use Rattle.rows.specs.declared.part.Part.{Part as RowPart}
-use Rattle.rows.specs.Rows.{parts_of as rowParts}
+use Rattle.rows.specs.Rows.{parts_of as row_parts}
 use Rattle.forms.specs.Reads.{part_count}
 use Rattle.forms.specs.Told.{Name, bytes_of, guard_of, guards_of, part_forms, split_of, body_of, uses_of, rule_of}
 use Rattle.forms.specs.declared.rule.RuleLine.{RuleLine}
@@ -41,8 +40,8 @@ body_count Make ns e = refl
 body_count Use ns e = refl
 body_count (Repeat a t) ns e = refl
 body_count (Split a p) ns e =
-    let k : length (rowParts p) ≡ p.count = length-take-le p.count p.items p.full in
-    split_count _ _ ∙ (forms_length (rowParts p) ns (k ∙ sym e) ∙ k)
+    let k : length (row_parts p) ≡ p.count = length-take-le p.count p.items p.full in
+    split_count _ _ ∙ (forms_length (row_parts p) ns (k ∙ sym e) ∙ k)
 
 same_before : (ms ms' ns ns' : List (List ℕ)) (t t' : Bool) (n n' : ℕ) → ms ≡ ms' → ns ≡ ns' → t ≡ t' → n ≡ n'
     → ◌≡◌ {A = Before} (record { materials = ms; names = ns; guarded = t; parts = n }) (record { materials = ms'; names = ns'; guarded = t'; parts = n' })

@@ -1,23 +1,19 @@
 -- A rule file has no fault just if it is in order.
-use Rattle.std.proofs.Common.{◌≡◌, ℕ, suc, ◌+◌, ◌-◌, ◌<◌, ◌≤◌, min, Bool, true, false, cond, not, ◌&&◌, ◌||◌, ltb, leb, List, [], ◌∷◌, ◌++◌, length, is_some, Some, None, Option, sym, refl, ap, ◌∙◌, ⊎_elim, arith}
-use Rattle.std.proofs.lemmas.List.{append-nil}
+use Rattle.std.proofs.Common.{◌≡◌, ℕ, ◌-◌, ◌<◌, ◌≤◌, Bool, true, false, cond, not, ◌&&◌, ◌||◌, ltb, leb, List, [], ◌∷◌, length, is_some, Some, None, Option, sym, refl, ap, ◌∙◌, arith}
 use Rattle.std.proofs.lemmas.Bool.{both_ways, cond-true, ltb-true, lt-ltb, leb-false, lt-leb, or_parts, ltb-false, le-ltb, cond-false}
 use Rattle.geometry.specs.Limits.{most_lines}
 use Rattle.text.proofs.Blank.{blank_decides}
 use Rattle.text.specs.Lines.{is_blank, file_limit, lines_of}
 use Rattle.text.specs.Tokens.{Lexeme, tokens_of}
-use Rattle.text.specs.declared.placed.Placed.{Placed}
 use Rattle.grammar.proofs.Accepts.{never}
 use Rattle.grammar.proofs.Ordered.{tells}
 use Rattle.grammar.specs.Forms.{Form, material, rule, lot, spell, plain, Fits}
-use Rattle.grammar.specs.Orders.{ordered}
-use Rattle.grammar.specs.Wants.{form, first_at, wrong_by}
+use Rattle.grammar.specs.Wants.{form, first_at}
 use Rattle.grammar.specs.declared.state.FileKind.TheVariants.{Rules}
 use Rattle.grammar.specs.declared.state.Naming.{Naming}
 use Rattle.judge.proofs.Filed.{Judges, first_none, both_none, found_none, whole_none, in_order, no_verdict}
-use Rattle.judge.specs.Files.{whole_file, Spells, column_of, some}
+use Rattle.judge.specs.Files.{Spells, column_of, some}
 use Rattle.judge.specs.Judged.{found, judged}
-use Rattle.judge.specs.declared.faults.Fault.{Fault}
 use Rattle.judge.specs.declared.faults.Fault.TheVariants.{FileTooLong, BadName, RuleNameUsed, TooMany}
 use Rattle.forms.specs.Met.{met}
 use Rattle.rules.proofs.Standing.{length_plain, material_some, material_none, material_parts, rule_some, rule_none, rule_parts, after_added, after_blank}

@@ -1,17 +1,16 @@
 -- What stands in a line that spells a form.
-use Rattle.std.proofs.Common.{◌≡◌, ℕ, suc, ◌+◌, ◌-◌, ◌<◌, ◌≤◌, Bool, true, false, cond, ◌&&◌, ltb, List, [], ◌∷◌, ◌++◌, map, length, Some, None, codes, Option, sym, refl, ap, ◌∙◌, arith}
+use Rattle.std.proofs.Common.{◌≡◌, ℕ, suc, ◌+◌, ◌-◌, ◌≤◌, Bool, true, false, cond, ◌&&◌, ltb, List, [], ◌∷◌, ◌++◌, map, length, Some, None, refl, ap, ◌∙◌, arith}
 use Rattle.std.proofs.lemmas.List.{append-nil}
 use Rattle.std.proofs.lemmas.Bool.{lt-ltb}
 use Rattle.text.specs.Tokens.{Lexeme, opening, closing, number, word, tokens_of, spelled}
 use Rattle.grammar.specs.Forms.{Axis, x_axis, y_axis, z_axis, Guard, guard, Part, fix, float, Body, make, refer, tile, split, Form, material, rule, lot, axis_text, spell_guards, spell_part, spell_parts, spell_body, spell, Fits, plain}
-use Rattle.grammar.specs.Wants.{Want, form, head, name, num, range, axis, shut, items, item, parts, more, part, size, onto, step}
+use Rattle.grammar.specs.Wants.{Want, form, name, range, axis, shut, items, parts, more, size, onto, step}
 use Rattle.grammar.specs.declared.state.FileKind.TheVariants.{Rules}
-use Rattle.grammar.specs.declared.state.Naming.{Naming}
-use Rattle.grammar.specs.declared.state.Naming.TheVariants.{Declared, Own, Material, Rule}
+use Rattle.grammar.specs.declared.state.Naming.TheVariants.{Rule}
 use Rattle.forms.specs.Met.{met}
 use Rattle.forms.specs.Reads.{part_count}
 use Rattle.judge.specs.Files.{some}
-use Rattle.rules.specs.Before.{Before, is_opening, looks, standing, lows_in, parts_in, declared_in, own_in, texts, after, added}
+use Rattle.rules.specs.Before.{Before, looks, standing, lows_in, parts_in, declared_in, own_in, texts, after, added}
 
 -- the same of lexemes without their columns
 abbrev picked : (List Want → Lexeme → Bool) → List Want → List Lexeme → List Lexeme

@@ -1,8 +1,7 @@
 -- What the lines of a rule file leave for those after them.
-use Rattle.std.specs.Prelude.{ℕ, ◌+◌, Bool, true, false, cond, not, ◌&&◌, ◌||◌, List, [], ◌∷◌, ◌++◌, map, length, Some, None, codes, Option, nat_lt}
-use Rattle.std.specs.Str.{bytes_eq}
+use Rattle.std.specs.Prelude.{ℕ, ◌+◌, Bool, true, false, cond, ◌&&◌, List, [], ◌∷◌, ◌++◌, map, length, nat_lt}
 use Rattle.text.specs.Tokens.{Lexeme, opening, closing, number, word, tokens_of, spelled}
-use Rattle.grammar.specs.Forms.{Form, material, rule, lot, Guard}
+use Rattle.grammar.specs.Forms.{Form, material, rule, lot}
 use Rattle.grammar.specs.Wants.{Want, form, head, name, num, range, axis, shut, items, item, parts, more, part}
 use Rattle.grammar.specs.declared.state.FileKind.TheVariants.{Rules}
 use Rattle.grammar.specs.declared.state.Naming.{Naming}

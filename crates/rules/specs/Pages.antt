@@ -3,7 +3,7 @@ use Rattle.std.specs.Prelude.{ℕ, List, []}
 use Rattle.bounded.specs.Held.{held_in}
 use Rattle.forms.specs.Told.{Name}
 use Rattle.forms.specs.declared.rule.RuleLine.{RuleLine}
-use Rattle.rules.specs.declared.book.Book.{Book}
+use Rattle.rules.specs.declared.rule_book.Book.{Book}
 
 -- the declared materials, the rule lines with their names, the names that they use, and the number of all parts
 pub record Pages : Type 0 where

@@ -9,10 +9,10 @@ ghost use Rattle.rules.specs.Before.{left_by};
 ghost use Rattle.rules.specs.Pages.{pages_of};
 ghost use Rattle.rules.specs.Verdicts.{redeclared, reused, part_room, material_too_many, line_too_many, too_many, line_fault};
 
-use crate::book::Book;
 use crate::passes::{
     Declares, NamesItself, OpensPart, Redeclared, Reused, has, last_guarded, pick,
 };
+use crate::rule_book::Book;
 use geometry::limits::MOST_LINES;
 use grammar::passes::first_at;
 use grammar::state::FileKind;

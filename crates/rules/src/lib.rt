@@ -1,6 +1,8 @@
 // A rule file read into a book.
-pub mod book;
+#![tactic(auto)]
+
 mod judging;
 mod passes;
 pub mod questions;
 mod reading;
+pub mod rule_book;

@@ -143,7 +143,7 @@ impl Test for OpensPart {
 
 // The column of the k-th token, from 0, of those that a test picks.
 pub(crate) fn pick<P: Test>(test: &P, line: Line, k: usize) -> Option<usize>
-    ensures { result ≡ column_of k (met (wrong test.now) (form Rules ∷ []) (tokens_of line.entry.bytes.now)) }
+    ensures { result ≡ column_of k (met (P.wrong test.now) (form Rules ∷ []) (tokens_of line.entry.bytes.now)) }
 {
     let mut tokens = Tokens::of(line);
     let mut state = State::Start(FileKind::Rules);
@@ -165,7 +165,7 @@ pub(crate) fn pick<P: Test>(test: &P, line: Line, k: usize) -> Option<usize>
 
 // Whether a test picks a token of the line.
 pub(crate) fn has<P: Test>(test: &P, line: Line) -> bool
-    ensures { result ≡ some (met (wrong test.now) (form Rules ∷ []) (tokens_of line.entry.bytes.now)) }
+    ensures { result ≡ some (met (P.wrong test.now) (form Rules ∷ []) (tokens_of line.entry.bytes.now)) }
 {
     pick(test, line, 0).is_some()
 }

@@ -2,7 +2,7 @@
 ghost use Rattle.std.specs.Prelude.{◌≡◌, ◌≤◌, length, IfOk};
 ghost use Rattle.rules.specs.Pages.{pages_of, no_pages};
 
-use crate::book::Book;
+use crate::rule_book::Book;
 use bounded::bounded::BoundedVec;
 use forms::rule::RuleLine;
 use std::alloc::{AllocError, Global};

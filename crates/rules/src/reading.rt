@@ -4,9 +4,9 @@ ghost use Rattle.rules.specs.Holds.{parts_of, has_room, MaterialTaken, RuleTaken
 ghost use Rattle.rules.specs.Pages.{pages_of, no_pages};
 ghost use Rattle.rules.specs.Verdicts.{verdict, RulesInOrder};
 
-use crate::book::Book;
 use crate::judging::{ALL_PARTS, line_fault, part_room};
 use crate::passes::{Declares, has};
+use crate::rule_book::Book;
 use forms::material::read_material;
 use forms::rules::read_rule;
 use forms::shape::Shape;

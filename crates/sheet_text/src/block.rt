@@ -1,20 +1,20 @@
 // The line of a block.
 ghost use Rattle.std.specs.Prelude.{◌≡◌, ◌≤◌, length};
 ghost use Rattle.sinks.specs.Meaning.{HandsOut};
-ghost use Rattle.texts.specs.Lines.{long_text};
+ghost use Rattle.texts.specs.LongLines.{long_text};
 ghost use Rattle.sheet_text.specs.Told.{block_line};
 
 use crate::limits::LINE_BYTES;
 use geometry::block::Block;
 use sinks::refusal::SinkRefusal;
-use texts::line::{LineKind, LongLine};
+use texts::long_line::{LongKind, LongLine};
 
 fn block_line(block: Block) -> LongLine
     ensures { long_text result ≡ block_line block }
 {
     let cuboid = block.cuboid;
     LongLine {
-        kind: LineKind::Block,
+        kind: LongKind::Block,
         first: block.material as u64,
         others: [
             cuboid.x.at.0 as u64,

@@ -2,17 +2,17 @@
 ghost use Rattle.std.specs.Prelude.{◌≡◌, ◌≤◌, [], length};
 ghost use Rattle.sinks.specs.Meaning.{HandsOut};
 ghost use Rattle.steps.specs.declared.stop.Ending.TheVariants.{Stopped};
-ghost use Rattle.texts.specs.Lines.{line_text, long_text};
+ghost use Rattle.texts.specs.LongLines.{numbers_text, long_text};
 ghost use Rattle.sheet_text.specs.Told.{ending_text};
 
 use crate::limits::LINE_BYTES;
 use sinks::refusal::SinkRefusal;
 use steps::stop::{Ending, Stop};
-use texts::line::{LineKind, LongLine};
+use texts::long_line::{LongKind, LongLine};
 
 // A line with the number of steps.
-fn steps_line(kind: LineKind, steps: u32) -> LongLine
-    ensures { long_text result ≡ line_text kind steps [] }
+fn steps_line(kind: LongKind, steps: u32) -> LongLine
+    ensures { long_text result ≡ numbers_text kind steps [] }
 {
     LongLine {
         kind,
@@ -27,7 +27,7 @@ fn stop_line(stop: Stop) -> LongLine
 {
     let cuboid = stop.scope.cuboid;
     LongLine {
-        kind: LineKind::Stop,
+        kind: LongKind::Stop,
         first: stop.number() as u64,
         others: [
             stop.line as u64,
@@ -47,8 +47,8 @@ pub(crate) fn ending_line(steps: u32, ending: Ending) -> LongLine
     ensures { long_text result ≡ ending_text steps ending }
 {
     match ending {
-        Ending::Done => steps_line(LineKind::Done, steps),
-        Ending::Spent => steps_line(LineKind::Spent, steps),
+        Ending::Done => steps_line(LongKind::Done, steps),
+        Ending::Spent => steps_line(LongKind::Spent, steps),
         Ending::Stopped(stop) => stop_line(stop),
     }
 }

@@ -1,4 +1,6 @@
 // The texts of a sheet, a refused file and a block, in the caller's buffer.
+#![tactic(auto)]
+
 pub mod block;
 pub mod cases;
 pub mod ending;

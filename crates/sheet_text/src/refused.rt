@@ -1,7 +1,7 @@
 // The line of a refused file.
 ghost use Rattle.std.specs.Prelude.{◌≡◌, ◌≤◌, length};
 ghost use Rattle.sinks.specs.Meaning.{HandsOut};
-ghost use Rattle.texts.specs.Lines.{long_text};
+ghost use Rattle.texts.specs.LongLines.{long_text};
 ghost use Rattle.sheet_text.specs.Told.{refused_kind, refused_text};
 
 use crate::limits::LINE_BYTES;
@@ -9,14 +9,14 @@ use grammar::state::FileKind;
 use judge::faults::{Fault, number_of};
 use sinks::refusal::SinkRefusal;
 use text::placed::Placed;
-use texts::line::{LineKind, LongLine};
+use texts::long_line::{LongKind, LongLine};
 
-fn refused_kind(file: FileKind) -> LineKind
+fn refused_kind(file: FileKind) -> LongKind
     ensures { result ≡ refused_kind file }
 {
     match file {
-        FileKind::Rules => LineKind::RulesRefused,
-        FileKind::Lots => LineKind::LotsRefused,
+        FileKind::Rules => LongKind::RulesRefused,
+        FileKind::Lots => LongKind::LotsRefused,
     }
 }
 

@@ -4,7 +4,7 @@ use Rattle.forms.proofs.body.read_repeat.Goals as goal
 
 pub returns : goal.returns
 returns c = λ room.
-    repeat_body room (held_in c.args.uses.now) (held_in c.read-use.new.uses) c.args.tokens.now c.expect-axis.new.tokens
-    c.expect-number.new.tokens c.read-use.new.tokens c.in-ok-axis.axis c.in-ok-length.length
-    c.in-ok-tile.tile c.in-ok-axis.ensures c.in-ok-length.ensures c.in-ok-tile.ensures
-    c.in-ok-read-use.ensures
+    repeat_body room (held_in c.args.uses.now) (held_in c.read_use.new.uses) c.args.tokens.now c.expect_axis.new.tokens
+    c.expect_number.new.tokens c.read_use.new.tokens c.in_ok-axis.axis c.in_ok-length.length
+    c.in_ok-tile.tile c.in_ok-axis.ensures c.in_ok-length.ensures c.in_ok-tile.ensures
+    c.in_ok-read_use.ensures

@@ -6,6 +6,6 @@ use Rattle.forms.proofs.guards.read_guards.Goals as goal
 
 pub loop-tokens-preserved : goal.loop-tokens-preserved
 loop-tokens-preserved c =
-    let word : ItemTo c.loop-tokens.tokens c.expect-item.new.tokens Guard = search rules in
-    guards_more c.args.tokens.now c.loop-tokens.tokens c.expect-item.new.tokens c.read-guard.new.tokens
+    let word : ItemTo c.loop-tokens.tokens c.expect_item.new.tokens Guard = search rules in
+    guards_more c.args.tokens.now c.loop-tokens.tokens c.expect_item.new.tokens c.read_guard.new.tokens
     c.loop-tokens.guards c.loop-tokens.guarded c.in-Some.guard (omega arith) c.loop-tokens.invariant word c.in-Some.ensures

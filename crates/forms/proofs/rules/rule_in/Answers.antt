@@ -5,12 +5,12 @@ use Rattle.forms.proofs.rules.rule_in.Goals as goal
 pub returns : goal.returns
 returns c =
     rule_read c.args.line.number c.args.room c.min.result c.args.line.bytes.now (held_in c.args.names.now)
-    (held_in c.rest-of-rule.new.names) (held_in c.args.uses.now) (held_in c.rest-of-rule.new.uses) c.of-tokens.result
-    c.expect-head.new.tokens c.of-tokens.ensures.all c.of-tokens.ensures.place c.min.ensures
-    c.in-ok-expect-head.ensures c.rest-of-rule.result c.rest-of-rule.ensures
+    (held_in c.rest_of_rule.new.names) (held_in c.args.uses.now) (held_in c.rest_of_rule.new.uses) c.of-tokens.result
+    c.expect_head.new.tokens c.of-tokens.ensures.all c.of-tokens.ensures.place c.min.ensures
+    c.in_ok-expect_head.ensures c.rest_of_rule.result c.rest_of_rule.ensures
 
-pub returns-in-err-expect-head : goal.returns-in-err-expect-head
-returns-in-err-expect-head c =
-    rw c.from-residual.ensures
+pub returns-in_err-expect_head : goal.returns-in_err-expect_head
+returns-in_err-expect_head c =
+    rw c.from_residual.ensures
     (not_rule c.args.line.number c.args.room c.args.line.bytes.now (held_in c.args.names.now) (held_in c.args.uses.now)
-    c.of-tokens.result c.of-tokens.ensures.all c.in-err-expect-head.ensures)
+    c.of-tokens.result c.of-tokens.ensures.all c.in_err-expect_head.ensures)

@@ -2,6 +2,6 @@ use Rattle.text.specs.Tokens.{tokens_left}
 use Rattle.forms.proofs.Leaves.{no_number}
 use Rattle.forms.proofs.tokens.expect_number.Goals as goal
 
-pub returns-in-err-word : goal.returns-in-err-word
-returns-in-err-word c =
-    rw c.from-residual.ensures (no_number c.args.low c.args.high (tokens_left c.args.tokens.now) c.in-err-word.ensures.0)
+pub returns-in_err-word : goal.returns-in_err-word
+returns-in_err-word c =
+    rw c.from_residual.ensures (no_number c.args.low c.args.high (tokens_left c.args.tokens.now) c.in_err-word.ensures.0)

@@ -1,4 +1,4 @@
-use Rattle.std.proofs.Common.{sym, ◌∙◌, arith}
+use Rattle.std.proofs.Common.{sym, ◌∙◌}
 use Rattle.std.proofs.lemmas.Bool.{le-ltb}
 use Rattle.forms.specs.Told.{bytes_of}
 use Rattle.rules.proofs.Lists.{last_is_lem, last_map, last_none}

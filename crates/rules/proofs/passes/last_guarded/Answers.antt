@@ -1,4 +1,4 @@
-use Rattle.std.proofs.Common.{ℕ, Bool, ltb, sym, ap, ◌∙◌, arith}
+use Rattle.std.proofs.Common.{Bool, ltb, sym, ap, ◌∙◌, arith}
 use Rattle.forms.specs.declared.rule.RuleLine.{RuleLine}
 use Rattle.rules.proofs.Lists.{last_is_lem, last_none}
 use Rattle.rules.proofs.passes.last_guarded.Goals as goal

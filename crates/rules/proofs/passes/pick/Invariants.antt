@@ -1,4 +1,4 @@
-use Rattle.std.proofs.Common.{◌≡◌, [], ◌∷◌, length}
+use Rattle.std.proofs.Common.{◌≡◌, length}
 use Rattle.text.specs.Tokens.{tokens_left}
 use Rattle.grammar.specs.States.{expects}
 use Rattle.forms.specs.Met.{met}

@@ -1,5 +1,5 @@
-use Rattle.judge.proofs.Onward.{goes_on, stops, ends}
-use Rattle.rules.proofs.Onward.{grows, reading_begins}
+use Rattle.judge.proofs.Onward.{goes_on}
+use Rattle.rules.proofs.Onward.{grows}
 use Rattle.rules.proofs.reading.read_lines.Goals as goal
 
 pub loop-line-preserved : goal.loop-line-preserved

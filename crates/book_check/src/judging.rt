@@ -1,0 +1,119 @@
+// The judgement of a book: in each line first the guards of a rule's last line, then the names from left to right.
+ghost use Rattle.std.specs.Prelude.{◌≡◌, ◌+◌, ◌<◌, length, drop, None};
+ghost use Rattle.rules.specs.Pages.{pages_of};
+ghost use Rattle.book_check.specs.Faults.{meant_fault, name_fault, used_fault, ends, guard_fault, line_fault, book_fault, AllInOrder, FirstFault};
+
+use crate::kind::Kind;
+use crate::names::{kind_of, meaning, used_by};
+use forms::rule::RuleLine;
+use judge::faults::Fault;
+use rules::rule_book::Book;
+use text::placed::Placed;
+use text::words::same;
+
+// What is wrong with a name that line i uses, by its kind and its meaning.
+fn meant_fault(
+    i: usize,
+    kind: Kind,
+    name: &Placed<&[u8]>,
+    meant: Option<usize>,
+) -> Option<Placed<Fault>>
+    ensures { result ≡ meant_fault i kind name.now meant }
+{
+    match meant {
+        None => Some(name.with(Fault::UnknownName)),
+        Some(j) => match kind {
+            Kind::Material => None,
+            Kind::Below => {
+                if i < j {
+                    None
+                } else {
+                    Some(name.with(Fault::NotFurtherDown))
+                }
+            }
+            Kind::Anywhere => None,
+        },
+    }
+}
+
+// What is wrong with a name that line i uses.
+fn name_fault(book: &Book, i: usize, kind: Kind, name: &Placed<&[u8]>) -> Option<Placed<Fault>>
+    ensures { result ≡ name_fault (pages_of book.now) i kind name.now }
+{
+    meant_fault(i, kind, name, meaning(book, kind, name.value))
+}
+
+// The first fault of the names that line i uses.
+fn used_fault(book: &Book, i: usize, kind: Kind, used: &[Placed<&[u8]>]) -> Option<Placed<Fault>>
+    ensures { result ≡ used_fault (pages_of book.now) i kind used.now }
+{
+    for name in used {
+        match name_fault(book, i, kind, name) {
+            Some(fault) => return Some(fault),
+            None => {}
+        }
+    }
+    None
+}
+
+// Whether the rule `word` ends before index k: the name there is another, or there is none.
+fn ends_at(names: &[Placed<&[u8]>], k: usize, word: &[u8]) -> bool
+    ensures { result ≡ ends word.now (drop k names.now) }
+{
+    if k >= names.len() {
+        return true;
+    }
+    !same(names[k].value, word)
+}
+
+// A guard in the last line of a rule.
+fn guard_fault(
+    names: &[Placed<&[u8]>],
+    i: usize,
+    name: &Placed<&[u8]>,
+    line: &RuleLine,
+) -> Option<Placed<Fault>>
+    requires { i < length names.now }
+    ensures { result ≡ guard_fault name.now (drop (i + 1) names.now) line.now }
+{
+    if line.guarded > 0 && ends_at(names, i + 1, name.value) {
+        Some(name.with(Fault::LastLineGuarded))
+    } else {
+        None
+    }
+}
+
+// The first fault of line i.
+fn line_fault(book: &Book, i: usize, name: &Placed<&[u8]>, line: &RuleLine) -> Option<Placed<Fault>>
+    requires { i < length (pages_of book.now).names }
+    ensures { result ≡ line_fault (pages_of book.now) i name.now (drop (i + 1) (pages_of book.now).names) line.now }
+{
+    match guard_fault(book.names(), i, name, line) {
+        Some(fault) => Some(fault),
+        None => used_fault(book, i, kind_of(&line.body), used_by(book.uses(), line)),
+    }
+}
+
+// The first fault of a book, line by line.
+fn first_fault(book: &Book) -> Option<Placed<Fault>>
+    ensures { result ≡ book_fault (pages_of book.now) }
+{
+    let names = book.names();
+    let lines = book.lines();
+    for i in 0..names.len().min(lines.len()) {
+        match line_fault(book, i, &names[i], &lines[i]) {
+            Some(fault) => return Some(fault),
+            None => {}
+        }
+    }
+    None
+}
+
+// The first fault of a book, or nothing just if all its lines are in order; the book stays as it is.
+pub fn judge_book(book: &Book) -> Option<Placed<Fault>>
+    ensures value { result ≡ book_fault (pages_of book.now) }
+    ensures first { FirstFault (pages_of book.now) result }
+    ensures accepts { AllInOrder (pages_of book.now) → result ≡ None }
+{
+    first_fault(book)
+}

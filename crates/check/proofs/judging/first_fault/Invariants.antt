@@ -1,7 +1,0 @@
-use Rattle.std.proofs.Common.{◌≡◌, drop}
-use Rattle.rules.specs.Pages.{pages_of}
-use Rattle.check.specs.Faults.{lines_fault, book_fault}
-use Rattle.check.proofs.judging.first_fault.Given as goal
-
-abbrev pub invariant-loop-i : goal.invariant-loop-i
-invariant-loop-i l = lines_fault (pages_of l.book) l.i (drop l.i l.names) (drop l.i l.lines) ≡ book_fault (pages_of l.book)

@@ -1,8 +1,0 @@
-use Rattle.std.proofs.Common.{take, drop, ap, ◌∙◌}
-use Rattle.check.proofs.Finds.{cut_out}
-use Rattle.check.proofs.names.used_by.Goals as goal
-
-pub returns : goal.returns
-returns c =
-    cut_out c.args.uses.now c.args.line.now.from c.uses-of.result c.min.result c.min-2.result c.min.ensures c.min-2.ensures
-    ∙ ap (λ n. take n (drop c.args.line.now.from c.args.uses.now)) c.uses-of.ensures

@@ -1,9 +1,0 @@
-use Rattle.rules.proofs.Onward.{read_whole}
-use Rattle.rules.specs.Pages.{pages_of}
-use Rattle.rules.proofs.book.Book.read.Goals as goal
-
-pub returns : goal.returns
-returns c =
-    let h = read_whole c.args.text.now c.of.result (pages_of c.clear.new.self) c.if-is-too-long.ensures c.of.ensures.all
-    c.of.ensures.first c.clear.ensures (pages_of c.read-lines.new.book) c.read-lines.result c.read-lines.ensures in
-    record { verdict = h.verdict_is; order = h.order; holds = h.holds; fits = h.fitting }
