@@ -4,7 +4,9 @@
 usage: tools/respell.py [--list]   at the top of the repository, once, right after the kit's own script
 
 It reads every name that a file of specs/ or proofs/ declares, and rewrites that name wherever it stands as a word of a
-.rt or .antt file below crates/. Names of goals, of the library and of src/ stay. --list prints old and new names and
+.rt or .antt file below crates/. A name that an import gives
+to a word in one file is turned too. Names of goals, of the library and of src/ stay, and so do words of a comment that
+have a dash. --list prints old and new names and
 writes nothing. Names that would fall together with another are reported, and nothing is written."""
 import glob
 import re
@@ -104,6 +106,10 @@ def main():
     def turn(m):
         if m[2] not in new or m[1] and m[2] not in fields:
             return m[0]
+        start = m.string.rfind("\n", 0, m.start()) + 1
+        comment = re.search(r"(^|\s)(--|//)\s", m.string[start : m.start()])
+        if comment and "-" in m[2] and m[2][0].islower():
+            return m[0]
         return m[1] + new[m[2]]
 
     for path in files(".antt", ".rt"):
@@ -112,6 +118,8 @@ def main():
         if path.endswith(".antt"):
             fresh = re.sub(r"(?<![\w'◌.-])(" + "|".join(LEMMAS) + r")(?![\w'◌-])", lambda m: LEMMAS[m[1]], fresh)
         fresh = word.sub(turn, fresh)
+        for alias in set(re.findall(r"\bas ([a-z][a-z0-9]*(?:[A-Z][a-z0-9]*)+)[,}]", fresh)):
+            fresh = re.sub(r"(?<![\w'◌.-])" + alias + r"(?![\w'◌-])", respelled(alias, "word"), fresh)
         if fresh != text:
             with open(path, "w", encoding="utf-8") as f:
                 f.write(fresh)

@@ -1,6 +1,6 @@
 // The line that applies to a scope.
 ghost use Rattle.std.specs.Prelude.{◌≡◌};
-ghost use Rattle.book.specs.Applying.{holds as guardHolds, hold, opens_to, Applies};
+ghost use Rattle.book.specs.Applying.{holds as guard_holds, hold, opens_to, Applies};
 ghost use Rattle.book.specs.Lines.{lines_of};
 
 use crate::guard::Guard;
@@ -10,7 +10,7 @@ use geometry::cuboid::Cuboid;
 use geometry::scope::Scope;
 
 fn holds(guard: Guard, cuboid: Cuboid) -> bool
-    ensures { result ≡ guardHolds cuboid guard }
+    ensures { result ≡ guard_holds cuboid guard }
 {
     let size = cuboid.on(guard.axis).size;
     guard.low.0 <= size.0 && size.0 <= guard.high.0

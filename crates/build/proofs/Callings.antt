@@ -1,5 +1,5 @@
 -- Calls one after another, and the laws at each stage.
-use Rattle.std.proofs.Common.{◌≡◌, ℕ, ◌+◌, ◌<◌, ◌≤◌, Bool, true, false, cond, leb, List, [], ◌∷◌, ◌++◌, map, length, get_or, take, Option, sym, refl, ap, ◌∙◌, subst₂, arith}
+use Rattle.std.proofs.Common.{◌≡◌, ℕ, ◌+◌, ◌<◌, ◌≤◌, Bool, true, false, cond, leb, List, [], ◌∷◌, ◌++◌, map, length, get_or, take, Option, sym, ap, ◌∙◌, subst₂, arith}
 use Rattle.std.proofs.lemmas.List.{take_more, map_push, append_assoc}
 use Rattle.geometry.specs.declared.block.Block.{Block}
 use Rattle.geometry.specs.declared.scope.Scope.{Scope}

@@ -1,9 +1,8 @@
 -- The laws over any list of calls.
-use Rattle.std.proofs.Common.{◌≡◌, ℕ, ◌+◌, ◌-◌, ◌*◌, ◌^◌, ◌<◌, ◌≤◌, min, Bool, true, List, [], ◌∷◌, ◌++◌, length, IfOk, Ok, Err, Result, sym, refl, ap, ◌∙◌, subst, arith}
+use Rattle.std.proofs.Common.{◌≡◌, ℕ, ◌+◌, ◌*◌, ◌<◌, ◌≤◌, Bool, true, List, [], ◌∷◌, ◌++◌, length, IfOk, Ok, Err, Result, sym, refl, ap, ◌∙◌, subst, arith}
 use Rattle.geometry.specs.declared.block.Block.{Block}
 use Rattle.geometry.specs.declared.cell.Cell.{Cell}
 use Rattle.geometry.specs.declared.scope.Scope.{Scope}
-use Rattle.geometry.specs.Sums.{sum_of}
 use Rattle.geometry.specs.Boxes.{volume_of, shared_with}
 use Rattle.rows.specs.Rows.{sizes, parts_of}
 use Rattle.rows.proofs.Fills.{parts_sound}
@@ -18,14 +17,13 @@ use Rattle.sinks.proofs.Materials.{over_at, over_same, over_none}
 use Rattle.sinks.proofs.Shares.{volume_le}
 use Rattle.sinks.proofs.Chains.{chain_weaker, chain_sum, blocks_told}
 use Rattle.derivation.specs.Derive.{Derived, begun}
-use Rattle.derivation.specs.Laws.{scope_volume, block_volume, scopes_in, Keeping}
+use Rattle.derivation.specs.Laws.{scope_volume, block_volume, scopes_in}
 use Rattle.derivation.proofs.Summing.{sum_append}
 use Rattle.derivation.proofs.Keeps.{laws_hold, tiles_lawful}
-use Rattle.steps.specs.Acting.{Ran}
 use Rattle.steps.proofs.Runnings.{derived_trans}
 use Rattle.build.specs.declared.build.Waiting.{Waiting}
 use Rattle.build.specs.Builds as builds
-use Rattle.build.specs.History.{Event, ran, waited, closed, drained, counted, measured, looked, answered, History, opened, run, wait, close, drain, count, measure, look}
+use Rattle.build.specs.History.{Event, waited, closed, drained, counted, measured, looked, answered, History, opened, run, wait, close, drain, count, measure, look}
 use Rattle.build.specs.Lawful.{Lawful, Answers, Exactly, RowsClose, LawsHold}
 
 -- b has what a has and these blocks more, in every material, every cell and in all

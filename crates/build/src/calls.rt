@@ -29,7 +29,7 @@ pub enum Call {
 }
 
 fn ask<S: Sink>(sink: &mut S, out: &mut [u8], call: SinkCall)
-    ensures { SinkOneMore edge parts took kept text call sink.old sink.new }
+    ensures { SinkOneMore S.Sink.edge S.Sink.parts S.Sink.took S.Sink.kept S.Sink.text call sink.old sink.new }
 {
     match call {
         SinkCall::Drain => {
@@ -48,7 +48,7 @@ fn ask<S: Sink>(sink: &mut S, out: &mut [u8], call: SinkCall)
 }
 
 fn carry<S: Sink>(build: &mut Build, sink: &mut S, out: &mut [u8], call: Call)
-    ensures more { OneMore edge parts took kept text (lines_in build.old) (space_of build.old) call (waiting_in build.old) (steps_of build.old) sink.old (waiting_in build.new) (steps_of build.new) sink.new }
+    ensures more { OneMore S.Sink.edge S.Sink.parts S.Sink.took S.Sink.kept S.Sink.text (lines_in build.old) (space_of build.old) call (waiting_in build.old) (steps_of build.old) sink.old (waiting_in build.new) (steps_of build.new) sink.new }
     ensures space { space_of build.new ≡ space_of build.old }
     ensures lines { lines_in build.new ≡ lines_in build.old }
 {
@@ -64,7 +64,7 @@ fn carry<S: Sink>(build: &mut Build, sink: &mut S, out: &mut [u8], call: Call)
 }
 
 fn ask_all<S: Sink>(sink: &mut S, out: &mut [u8], calls: &[SinkCall])
-    ensures { SinkGoesOn edge parts took kept text calls.now sink.old sink.new }
+    ensures { SinkGoesOn S.Sink.edge S.Sink.parts S.Sink.took S.Sink.kept S.Sink.text calls.now sink.old sink.new }
 {
     for call in calls {
         ask(sink, out, *call);
@@ -72,7 +72,7 @@ fn ask_all<S: Sink>(sink: &mut S, out: &mut [u8], calls: &[SinkCall])
 }
 
 fn carry_all<S: Sink>(build: &mut Build, sink: &mut S, out: &mut [u8], calls: &[Call])
-    ensures more { GoesOn edge parts took kept text (lines_in build.old) (space_of build.old) calls.now (waiting_in build.old) (steps_of build.old) sink.old (waiting_in build.new) (steps_of build.new) sink.new }
+    ensures more { GoesOn S.Sink.edge S.Sink.parts S.Sink.took S.Sink.kept S.Sink.text (lines_in build.old) (space_of build.old) calls.now (waiting_in build.old) (steps_of build.old) sink.old (waiting_in build.new) (steps_of build.new) sink.new }
     ensures space { space_of build.new ≡ space_of build.old }
     ensures lines { lines_in build.new ≡ lines_in build.old }
 {
@@ -91,7 +91,7 @@ pub fn carry_out<S: Sink>(
     calls: &[Call],
     after: &[SinkCall],
 ) -> Closed
-    ensures { Empty (parts sink.old) → Carried edge parts (joined_lines joined) (passed (length slots.old) (lots_of joined)) calls.now result after.now (parts sink.new) }
+    ensures { Empty (S.Sink.parts sink.old) → Carried S.Sink.edge S.Sink.parts (joined_lines joined) (passed (length slots.old) (lots_of joined)) calls.now result after.now (S.Sink.parts sink.new) }
 {
     let Opened { mut build, slip } = open(joined, slots);
     carry_all(&mut build, sink, out, calls);

@@ -26,7 +26,7 @@ fn volume_over(slots: &mut [Scope], mark: usize) -> Waiting
 impl<'s> Build<'s> {
     // Makes steps into the sink, at most as many as the budget: how many were made, and how the run ended.
     pub fn run<S: Sink>(&mut self, sink: &mut S, budget: u32) -> (u32, Ending)
-        ensures ran { Ran edge parts took kept (lines_in self.old) (waiting_in self.old) (waiting_in self.new) (space_of self.old) sink.old sink.new budget result.0 result.1 }
+        ensures ran { Ran S.Sink.edge S.Sink.parts S.Sink.took S.Sink.kept (lines_in self.old) (waiting_in self.old) (waiting_in self.new) (space_of self.old) sink.old sink.new budget result.0 result.1 }
         ensures space { space_of self.new ≡ space_of self.old }
         ensures lines { lines_in self.new ≡ lines_in self.old }
         ensures steps { steps_of self.new ≡ min (steps_of self.old + result.0) (2 ^ 64 - 1) }

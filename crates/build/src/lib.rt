@@ -1,4 +1,6 @@
 // Builds: open, run, question and close, and the laws over any list of calls.
+#![tactic(auto)]
+
 pub mod build;
 pub mod calls;
 pub mod closing;

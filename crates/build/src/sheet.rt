@@ -24,7 +24,7 @@ pub fn cut_sheet<S: Sink>(
     sink: &mut S,
     budget: u32,
 ) -> Sheet
-    ensures { CutsSheet edge parts took kept (joined_lines joined) (passed (length slots.old) (lots_of joined)) (length slots.old) sink.old sink.new budget result }
+    ensures { CutsSheet S.Sink.edge S.Sink.parts S.Sink.took S.Sink.kept (joined_lines joined) (passed (length slots.old) (lots_of joined)) (length slots.old) sink.old sink.new budget result }
 {
     let Opened { mut build, slip } = open(joined, slots);
     let (steps, ending) = build.run(sink, budget);

@@ -1,4 +1,6 @@
 // Compares the rows of the library with those of a second apportioner, written another way.
+#![tactic(auto)]
+
 mod bodies;
 mod second;
 mod tally;

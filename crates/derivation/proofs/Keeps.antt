@@ -1,5 +1,5 @@
 -- The laws of derivations.
-use Rattle.std.proofs.Common.{◌≡◌, ℕ, ◌+◌, ◌-◌, ◌*◌, ◌<◌, ◌≤◌, Bool, true, false, cond, ltb, List, [], ◌∷◌, ◌++◌, map, length, replicate, Ok, Err, Result, sym, refl, ap, ◌∙◌, subst, zero-add, arith}
+use Rattle.std.proofs.Common.{◌≡◌, ℕ, ◌+◌, ◌*◌, ◌<◌, ◌≤◌, Bool, true, false, cond, ltb, List, [], ◌∷◌, map, length, replicate, Ok, Err, Result, sym, ap, ◌∙◌, subst, zero-add, arith}
 use native.Mathlib.Nat.{one-le-mul}
 use Rattle.geometry.specs.declared.axis.Axis.{Axis}
 use Rattle.geometry.specs.declared.cuboid.Cuboid.{Cuboid}
@@ -9,7 +9,6 @@ use Rattle.geometry.specs.Sums.{sum_of}
 use Rattle.geometry.specs.Boxes.{span_on, volume_of, shared_with}
 use Rattle.geometry.specs.Laws.{Laid}
 use Rattle.geometry.proofs.Fills.{pieces_share}
-use Rattle.rows.specs.declared.size.Size.{Size}
 use Rattle.rows.specs.declared.refusal.RowRefusal.{RowRefusal}
 use Rattle.rows.specs.declared.refusal.RowRefusal.TheVariants.{TooManyTiles}
 use Rattle.rows.specs.Rows.{sizes, parts_of, split_row, repeat_row, tiles, most_tiles, tile_size}
@@ -23,8 +22,8 @@ use Rattle.book.specs.declared.line.Line.{Line}
 use Rattle.book.specs.Checks.{part_rules}
 use Rattle.book.specs.Lines.{Checked, BodyOk, Lone}
 use Rattle.book.specs.Applying.{Applies}
-use Rattle.derivation.specs.Derive.{box_of, rule_of, length_on, Cut, Does, Goes, Derived, begun, step}
-use Rattle.derivation.specs.Laws.{scope_volume, potential, Keeping, LawsHold}
+use Rattle.derivation.specs.Derive.{box_of, rule_of, length_on, Cut, Does, Derived, begun, step}
+use Rattle.derivation.specs.Laws.{scope_volume, potential, LawsHold}
 use Rattle.derivation.proofs.Summing.{sum_append, sum_map}
 
 -- the row of a repeat is that of so many equal parts

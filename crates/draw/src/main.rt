@@ -1,4 +1,6 @@
 // Draws a small wall: its blocks go into all four sinks, and the OBJ text and then the bill are printed.
+#![tactic(auto)]
+
 ghost use Rattle.std.specs.Prelude.{IfOk, MatchOption, OnOk};
 ghost use Rattle.draw.specs.Entries.{NoBlock, IsBlock, AreBlocks, TakesAll};
 

@@ -1,9 +1,8 @@
 -- Volumes as numbers of cubes.
-use Rattle.std.proofs.Common.{◌≡◌, ℕ, zero, suc, ◌+◌, ◌-◌, ◌*◌, ◌<◌, ◌≤◌, min, max, Bool, true, false, cond, ◌&&◌, ltb, leb, ◌⊎◌, sym, refl, ap, ◌∙◌, inl, inr, ⊎_elim, mul_assoc, add-mul, arith}
+use Rattle.std.proofs.Common.{◌≡◌, ℕ, zero, suc, ◌+◌, ◌-◌, ◌*◌, ◌<◌, ◌≤◌, min, max, Bool, true, false, ◌&&◌, ltb, leb, sym, ap, ◌∙◌, ⊎_elim, mul_assoc, add-mul, arith}
 use Rattle.std.proofs.lemmas.Bool.{cases_lt}
 use Rattle.std.proofs.lemmas.Bool.Decides.{nat_tests}
 use Rattle.geometry.specs.declared.span.Span.{Span}
-use Rattle.geometry.specs.declared.cuboid.Cuboid.{Cuboid}
 use Rattle.geometry.specs.Limits.{site}
 use Rattle.geometry.specs.Sums.{total, count}
 use Rattle.geometry.specs.Boxes.{overlap}

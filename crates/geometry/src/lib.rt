@@ -1,4 +1,6 @@
 // Millimetres, weights, axes, boxes of the site, blocks and scopes.
+#![tactic(auto)]
+
 pub mod axis;
 pub mod block;
 mod boxes;

@@ -5,12 +5,11 @@ use Rattle.std.proofs.lemmas.Bool.{or_cases, ltb-true, lt-ltb, eqb-true, falseâ‰
 use Rattle.std.specs.Str.{bytes_eq}
 use Rattle.text.specs.Tokens.{Lexeme, opening, closing, number, word}
 use Rattle.text.specs.Words.{is_axis}
-use Rattle.grammar.specs.Forms.{Axis, x_axis, y_axis, z_axis, Guard, guard, Part, fix, float, Body, make, refer, tile, split, Form, material, rule, lot, axis_text, spell_guards, spell_part, spell_parts, spell_body, spell_form, spell, Fits, Begins, plain, FirstStuck}
+use Rattle.grammar.specs.Forms.{Axis, x_axis, y_axis, z_axis, Guard, guard, Part, fix, float, Body, make, refer, tile, split, Form, material, rule, lot, axis_text, spell_guards, spell_part, spell_parts, spell_body, spell_form, Fits, Begins, plain, FirstStuck}
 use Rattle.geometry.specs.Limits.{site}
-use Rattle.grammar.specs.Wants.{Want, form, head, name, num, range, axis, shut, items, item, parts, more, part, corner, size, weight_limit, low_of, head_wants, item_wants, part_wants, at_opening, at_closing, at_number, at_word, expand, onto, step, run, first_at, misplaced}
+use Rattle.grammar.specs.Wants.{Want, form, head, name, num, range, axis, shut, items, item, parts, more, part, corner, size, weight_limit, low_of, head_wants, item_wants, part_wants, at_opening, at_closing, at_number, at_word, onto, step, run, first_at, misplaced}
 use Rattle.grammar.specs.declared.state.FileKind.{FileKind}
 use Rattle.grammar.specs.declared.state.FileKind.TheVariants.{Rules, Lots}
-use Rattle.grammar.specs.declared.state.Naming.{Naming}
 use Rattle.grammar.specs.declared.state.Naming.TheVariants.{Declared, Own, Material, Rule}
 
 -- a spelling is taken

@@ -1,12 +1,12 @@
 -- A test on numbers and names finds nothing in a spelling just if they are in order.
-use Rattle.std.proofs.Common.{◌≡◌, ℕ, ◌-◌, ◌≤◌, Bool, true, false, cond, not, ◌&&◌, ltb, List, [], ◌∷◌, ◌++◌, length, is_some, Some, None, codes, Option, sym, refl, ap, ◌∙◌, subst, arith}
+use Rattle.std.proofs.Common.{◌≡◌, ℕ, ◌-◌, ◌≤◌, Bool, true, false, cond, not, ◌&&◌, ltb, List, [], ◌∷◌, length, is_some, Some, None, Option, sym, refl, ap, ◌∙◌, subst, arith}
 use Rattle.std.proofs.lemmas.Bool.{lt-ltb, cond-false}
-use Rattle.text.specs.Tokens.{Lexeme, opening, closing, number, word}
+use Rattle.text.specs.Tokens.{Lexeme, closing, number, word}
 use Rattle.grammar.proofs.Accepts.{then}
 use Rattle.grammar.specs.Forms.{Axis, x_axis, y_axis, z_axis, Guard, guard, Part, fix, float, Body, make, refer, tile, split, Form, material, rule, lot, axis_text, spell_guards, spell_part, spell_parts, spell_body, spell, Fits, plain}
 use Rattle.grammar.specs.Orders.{ordered_guards, ordered_part, ordered_parts, ordered_body, ordered, Tells, FirstWrong}
 use Rattle.geometry.specs.Limits.{site, least}
-use Rattle.grammar.specs.Wants.{Want, form, head, name, num, range, axis, shut, items, parts, more, size, corner, weight_limit, low_of, onto, step, first_at, wrong_by, passes}
+use Rattle.grammar.specs.Wants.{Want, form, name, num, range, axis, shut, items, parts, more, size, weight_limit, low_of, onto, step, first_at, wrong_by, passes}
 use Rattle.grammar.specs.declared.state.FileKind.{FileKind}
 use Rattle.grammar.specs.declared.state.FileKind.TheVariants.{Rules, Lots}
 use Rattle.grammar.specs.declared.state.Naming.{Naming}

@@ -1,5 +1,5 @@
 -- Forms whose numbers and names are in order.
-use Rattle.std.specs.Prelude.{◌≡◌, ℕ, ◌-◌, Bool, true, false, not, ◌&&◌, List, [], ◌∷◌, ◌++◌, is_some, Some, None, Option}
+use Rattle.std.specs.Prelude.{◌≡◌, ℕ, ◌-◌, Bool, true, not, ◌&&◌, List, [], ◌∷◌, ◌++◌, is_some, Some, None, Option}
 use Rattle.text.specs.Tokens.{Lexeme}
 use Rattle.text.specs.Words.{good_name}
 use Rattle.grammar.specs.Forms.{Guard, guard, Part, fix, float, Body, make, refer, tile, split, Form, material, rule, lot, spell, plain, Fits}

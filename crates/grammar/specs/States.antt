@@ -1,8 +1,8 @@
 -- What a line wants in each state of the code.
-use Rattle.std.specs.Prelude.{ℕ, List, [], ◌∷◌, Some, None, Option}
+use Rattle.std.specs.Prelude.{List, [], ◌∷◌, Some, None, Option}
 use Rattle.geometry.specs.Limits.{site}
 use Rattle.grammar.specs.Wants.{Want, form, head, name, num, range, axis, shut, items, item, parts, more, part, corner, size, weight_limit}
-use Rattle.grammar.specs.declared.state.Naming.TheVariants.{Declared, Own, Material, Rule}
+use Rattle.grammar.specs.declared.state.Naming.TheVariants.{Declared, Own, Rule}
 use Rattle.grammar.specs.declared.state.State.{State}
 use Rattle.grammar.specs.declared.state.State.TheVariants.{Start, Head, MaterialName, RuleName, Items, Item, GuardAxis, GuardLow, GuardHigh, GuardEnd, BodyName, BodyEnd, RepeatAxis, RepeatTile, SplitAxis, Parts, Part, PartLength, PartWeight, PartName, PartEnd, More, CornerX, CornerY, CornerZ, SizeX, SizeY, SizeZ, LotName, FormEnd, Done}
 

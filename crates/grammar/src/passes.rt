@@ -24,7 +24,7 @@ pub trait Test {
 
 // The column of the first token that fails a test; nothing is looked for past a token that does not fit.
 pub fn first_at<P: Test>(test: &P, file: FileKind, line: Line) -> Option<usize>
-    ensures { result ≡ first_at (wrong test.now) (form file ∷ []) (tokens_of line.entry.bytes.now) }
+    ensures { result ≡ first_at (P.wrong test.now) (form file ∷ []) (tokens_of line.entry.bytes.now) }
 {
     let mut tokens = Tokens::of(line);
     let mut state = State::Start(file);

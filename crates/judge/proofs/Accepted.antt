@@ -1,5 +1,5 @@
 -- A line is found without fault just if it is acceptable.
-use Rattle.std.proofs.Common.{◌≡◌, ℕ, ◌+◌, ◌-◌, ◌<◌, ◌≤◌, Bool, true, false, cond, not, ltb, ◌⊎◌, List, [], ◌∷◌, ◌++◌, length, get_or, is_some, Some, None, Option, sym, refl, ap, ◌∙◌, subst, inl, inr, ⊎_elim, arith}
+use Rattle.std.proofs.Common.{◌≡◌, ℕ, ◌+◌, ◌-◌, ◌<◌, ◌≤◌, Bool, true, false, cond, not, ltb, List, [], ◌∷◌, length, get_or, is_some, Some, None, Option, sym, refl, ap, ◌∙◌, inl, inr, ⊎_elim, arith}
 use Rattle.std.proofs.lemmas.Bool.{ltb-false, le-ltb, cond-false, cases_Bool, not-false, both_ways}
 use Rattle.text.proofs.Blank.{blank_decides}
 use Rattle.text.proofs.Found.{first_found}
@@ -11,7 +11,7 @@ use Rattle.text.specs.Words.{good_name}
 use Rattle.text.specs.declared.placed.Placed.{Placed}
 use Rattle.grammar.proofs.Accepts.{never, then, Found, found as stopped, whole, runs_form}
 use Rattle.grammar.proofs.Ordered.{tells}
-use Rattle.grammar.specs.Forms.{Form, Fits, spell, spell_form, plain}
+use Rattle.grammar.specs.Forms.{Form, spell, spell_form, plain}
 use Rattle.grammar.specs.Orders.{good_numbers, good_names}
 use Rattle.grammar.specs.Wants.{Want, form, step, run, first_at, misplaced, bad_number, bad_name, inside}
 use Rattle.grammar.specs.declared.state.FileKind.{FileKind}

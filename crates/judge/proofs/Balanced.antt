@@ -1,12 +1,12 @@
 -- The brackets of a line, by its tokens.
-use Rattle.std.proofs.Common.{◌≡◌, ℕ, ◌+◌, ◌-◌, ◌<◌, Bool, true, false, cond, not, ◌&&◌, eqb, ltb, List, [], ◌∷◌, ◌++◌, length, drop, is_some, Some, None, Option, sym, refl, ap, ◌∙◌, arith, length-drop}
-use Rattle.std.proofs.lemmas.Bool.{cond-true, cond-false, eqb-true, ne_eqb}
+use Rattle.std.proofs.Common.{◌≡◌, ℕ, ◌+◌, ◌-◌, Bool, true, false, cond, not, ◌&&◌, eqb, ltb, List, [], ◌∷◌, ◌++◌, length, drop, is_some, Some, Option, sym, refl, ap, ◌∙◌, arith, length-drop}
+use Rattle.std.proofs.lemmas.Bool.{cond-false, eqb-true, ne_eqb}
 use Rattle.stack.specs.Held.{top_of}
 use Rattle.text.proofs.Scanned.{scan_is}
 use Rattle.text.specs.Bytes.{is_digit}
 use Rattle.text.specs.Findings.{levels, unbalanced}
 use Rattle.text.specs.Scans.{scanned}
-use Rattle.text.specs.Tokens.{Lexeme, opening, closing, number, word, run_of, ended, lexed, tokens_of}
+use Rattle.text.specs.Tokens.{Lexeme, opening, closing, number, word, ended, lexed, tokens_of}
 use Rattle.grammar.specs.Forms.{Guard, guard, Part, fix, float, Body, make, refer, tile, split, Form, material, rule, lot, spell_guards, spell_parts, spell_body, spell, plain}
 
 -- the pass with a stack, over tokens

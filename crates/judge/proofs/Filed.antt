@@ -1,5 +1,5 @@
 -- A file has no fault just if its lines are in order.
-use Rattle.std.proofs.Common.{◌≡◌, ℕ, ◌+◌, Bool, true, false, cond, ◌⊎◌, List, [], ◌∷◌, Some, None, Option, sym, refl, ap, ◌∙◌, subst, inl, inr, ⊎_elim}
+use Rattle.std.proofs.Common.{◌≡◌, ℕ, ◌+◌, Bool, true, false, cond, List, [], ◌∷◌, Some, None, Option, sym, refl, ap, ◌∙◌, inl, inr, ⊎_elim}
 use Rattle.text.specs.Findings.{or_else}
 use Rattle.text.specs.Lines.{is_blank}
 use Rattle.text.specs.declared.placed.Placed.{Placed}

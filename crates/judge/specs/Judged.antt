@@ -1,5 +1,5 @@
 -- The judgement of a line by itself.
-use Rattle.std.specs.Prelude.{◌≡◌, ℕ, ◌<◌, ◌≤◌, Bool, true, false, ◌⊎◌, List, [], ◌∷◌, length, Some, None, Option, slice_index}
+use Rattle.std.specs.Prelude.{◌≡◌, ℕ, ◌<◌, ◌≤◌, true, ◌⊎◌, List, [], ◌∷◌, length, Some, None, Option, slice_index}
 use Rattle.text.specs.Bytes.{allowed}
 use Rattle.text.specs.Findings.{or_else, line_limit, too_long, not_allowed, unbalanced}
 use Rattle.text.specs.Lines.{is_blank}

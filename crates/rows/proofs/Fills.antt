@@ -1,5 +1,5 @@
 -- What the row of a split needs of its parts.
-use Rattle.std.proofs.Common.{◌≡◌, ℕ, zero, suc, ◌+◌, ◌-◌, ◌<◌, ◌≤◌, false, cond, ◌&&◌, eqb, ltb, ◌⊎◌, List, [], ◌∷◌, ◌++◌, length, take, set, Err, sym, refl, ap, ◌∙◌, subst, inl, inr, ⊎_elim, arith}
+use Rattle.std.proofs.Common.{◌≡◌, ℕ, zero, suc, ◌+◌, ◌-◌, ◌<◌, ◌≤◌, false, cond, ◌&&◌, eqb, ltb, ◌⊎◌, List, [], ◌∷◌, ◌++◌, length, take, set, Err, sym, refl, ap, ◌∙◌, subst, ⊎_elim, arith}
 use Rattle.std.proofs.lemmas.List.{take_more_set, map_push, append_assoc}
 use Rattle.std.proofs.lemmas.Bool.{cond-true, cond-false, lt-ltb, le-ltb, ne_eqb, and_left, and_right}
 use Rattle.geometry.specs.declared.units.Mm.{Mm}
@@ -12,7 +12,7 @@ use Rattle.rows.specs.declared.row.Segment.{Segment}
 use Rattle.rows.specs.declared.refusal.RowRefusal.TheVariants.{SpareLeft}
 use Rattle.rows.specs.Sizes.{amount, highest, InRange}
 use Rattle.rows.specs.Apportion.{left_over, floating}
-use Rattle.rows.specs.Rows.{sizes, fixed_sum, floats, weight_at, weight_sum, laid, thin, filled, shared, split_row, lengths_of}
+use Rattle.rows.specs.Rows.{sizes, fixed_sum, floats, weight_at, weight_sum, laid, thin, filled, split_row, lengths_of}
 use Rattle.rows.proofs.Remainders.{left_few}
 
 pub parts_sound : (ps : List Part) → InRange (sizes ps)

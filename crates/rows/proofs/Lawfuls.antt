@@ -1,5 +1,5 @@
 -- The laws of rows.
-use Rattle.std.proofs.Common.{◌≡◌, ℕ, suc, ◌+◌, ◌-◌, ◌<◌, ◌≤◌, true, ◌&&◌, eqb, ltb, ◌⊎◌, List, [], ◌∷◌, length, IfOk, Some, None, Ok, Err, Option, Result, sym, refl, ap, ◌∙◌, subst, inl, inr, ⊎_elim, arith}
+use Rattle.std.proofs.Common.{◌≡◌, ℕ, suc, ◌+◌, ◌-◌, ◌<◌, ◌≤◌, true, ◌&&◌, eqb, ltb, List, [], ◌∷◌, length, IfOk, Some, None, Ok, Err, Option, Result, sym, refl, ap, ◌∙◌, subst, inl, inr, ⊎_elim, arith}
 use Rattle.std.proofs.lemmas.Bool.{cases_lt, cond-true, cond-false, lt-ltb, le-ltb, eq-eqb, and_from}
 use Rattle.geometry.specs.Limits.{least}
 use Rattle.geometry.specs.Sums.{total, sum_of}
@@ -8,7 +8,7 @@ use Rattle.rows.specs.declared.size.Size.{Size}
 use Rattle.rows.specs.declared.size.Size.TheVariants.{Fix, Float}
 use Rattle.rows.specs.declared.row.Row.{Row}
 use Rattle.rows.specs.declared.refusal.RowRefusal.{RowRefusal}
-use Rattle.rows.specs.declared.refusal.RowRefusal.TheVariants.{FixedTooLong, NothingFloats, Vanishes}
+use Rattle.rows.specs.declared.refusal.RowRefusal.TheVariants.{FixedTooLong, NothingFloats}
 use Rattle.rows.specs.Sizes.{InRange}
 use Rattle.rows.specs.Apportion.{tie, before, remainder}
 use Rattle.rows.specs.Rows.{fixed_sum, floats, weight_at, weight_sum, laid, thin, unless_thin, split_row, told, told_of}

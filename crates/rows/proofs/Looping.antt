@@ -1,5 +1,5 @@
 -- The step of a loop that reads a slice or fills an array.
-use Rattle.std.proofs.Common.{◌≡◌, ℕ, ◌+◌, ◌<◌, ◌≤◌, ◌≢◌, List, ◌∷◌, length, get_or, drop, set, sym, ap, ◌∙◌, arith, below_more}
+use Rattle.std.proofs.Common.{◌≡◌, ℕ, ◌+◌, ◌<◌, ◌≢◌, List, ◌∷◌, length, get_or, drop, set, sym, ap, ◌∙◌, arith, below_more}
 use Rattle.std.proofs.lemmas.List.{drop_more, get_or-set_same, get_or-set_other}
 use Rattle.geometry.specs.declared.units.Mm.{Mm}
 use Rattle.rows.specs.declared.size.Size.{Size}

@@ -1,7 +1,7 @@
 -- Under any strict total order, exactly min k n of the indices below n have a rank below k.
-use Rattle.std.proofs.Common.{◌≡◌, ℕ, zero, suc, ◌+◌, ◌-◌, ◌<◌, ◌≤◌, min, Bool, true, false, ltb, ◌⊎◌, sym, ap, ◌∙◌, inl, inr, ⊎_elim, arith}
+use Rattle.std.proofs.Common.{◌≡◌, ℕ, zero, suc, ◌-◌, ◌<◌, ◌≤◌, min, Bool, true, false, ltb, ◌⊎◌, sym, ap, ◌∙◌, inl, inr, ⊎_elim, arith}
 use Rattle.std.proofs.lemmas.Bool.{cases_lt, cases_Bool, lt-ltb, le-ltb}
-use Rattle.geometry.specs.Sums.{total, count}
+use Rattle.geometry.specs.Sums.{count}
 use Rattle.geometry.proofs.Totals.{one, one_true, one_false, one_le, total_same, count_le, count_up}
 use Rattle.rows.specs.Apportion.{TieRule, comes, before, rank_by}
 use Rattle.rows.specs.Laws.{Strict}

@@ -1,11 +1,11 @@
 -- What follows from largest remainders alone.
-use Rattle.std.proofs.Common.{◌≡◌, ℕ, zero, suc, ◌+◌, ◌-◌, ◌*◌, ◌<◌, ◌≤◌, min, Bool, true, ltb, sym, refl, ap, ◌∙◌, ⊎_elim, mod-lt, mul_comm, add-mul, mul-le-mul_left, arith}
+use Rattle.std.proofs.Common.{◌≡◌, ℕ, zero, suc, ◌+◌, ◌-◌, ◌*◌, ◌<◌, ◌≤◌, Bool, true, ltb, refl, ap, ◌∙◌, ⊎_elim, mod-lt, mul_comm, add-mul, mul-le-mul_left, arith}
 use native.Mathlib.Nat.{div-add-mod, mul-sub, le_of_mul-le-mul_left, lt_of_mul-lt-mul_left}
 use Rattle.std.proofs.lemmas.Bool.{cases_lt, lt-ltb, le-ltb, ltb-true}
 use Rattle.geometry.specs.Sums.{total, count}
 use Rattle.geometry.proofs.Totals.{one, one_true, one_false, one_up, total_same, total_le, total_plus, total_times, count_le, count_up}
-use Rattle.rows.specs.Apportion.{rank_by, whole, remainder, left_over, extra, floating_by}
-use Rattle.rows.specs.Laws.{Near, Strict, LargestRemainders, AnyOrder, RemaindersSuffice}
+use Rattle.rows.specs.Apportion.{rank_by, whole, remainder, left_over, extra}
+use Rattle.rows.specs.Laws.{Near, AnyOrder, RemaindersSuffice}
 use Rattle.rows.proofs.Ranks.{ranked}
 
 total_some : (w : ℕ → ℕ) (n : ℕ) → 0 < total w n → 0 < n

@@ -5,7 +5,7 @@ use Rattle.std.proofs.lemmas.Bool.{cases_lt, lt-ltb, le-ltb}
 use Rattle.geometry.specs.Sums.{total, count}
 use Rattle.geometry.proofs.Totals.{one, one_true, one_false, total_same}
 use Rattle.rows.specs.Sizes.{InRange}
-use Rattle.rows.specs.Apportion.{tie, comes, before, rank_by, whole, remainder, left_over, extra, floating}
+use Rattle.rows.specs.Apportion.{tie, before, rank_by, whole, remainder, left_over, floating}
 use Rattle.rows.specs.Rows.{fixed_sum, floats, weight_at, weight_sum, filled, split_row, tile_size}
 use Rattle.rows.specs.Tiles.{tile_rank, tile_length}
 use Rattle.rows.proofs.Orders.{comes_equal}

@@ -1,4 +1,4 @@
--- The largest_remainder method: n floating parts of weights w 0, .., w (n - 1), which add up to W, share R millimetres.
+-- The largest-remainder method: n floating parts of weights w 0, .., w (n - 1), which add up to W, share R millimetres.
 use Rattle.std.specs.Prelude.{ℕ, ◌+◌, ◌-◌, ◌*◌, ◌/◌, ◌%◌, Bool, cond, ◌&&◌, ◌||◌, ◌==◌, nat_lt}
 use Rattle.geometry.specs.Sums.{total, count}
 

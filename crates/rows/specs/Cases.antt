@@ -1,5 +1,5 @@
 -- Worked cases, each by the name of what it shows.
-use Rattle.std.specs.Prelude.{◌≡◌, ℕ, List, [], ◌∷◌, replicate, Ok, Err}
+use Rattle.std.specs.Prelude.{◌≡◌, ℕ, [], ◌∷◌, replicate, Ok, Err}
 use Rattle.rows.specs.declared.size.Size.{Size}
 use Rattle.rows.specs.declared.size.Size.TheVariants.{Fix, Float}
 use Rattle.rows.specs.declared.refusal.RowRefusal.TheVariants.{FixedTooLong, NothingFloats, Vanishes, TooManyTiles}

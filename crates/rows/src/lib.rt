@@ -1,4 +1,6 @@
 // Rows: the lengths that a split or a repeat cuts from a scope along an axis.
+#![tactic(auto)]
+
 mod gather;
 pub mod laws;
 pub mod making;

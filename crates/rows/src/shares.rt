@@ -1,6 +1,6 @@
 // Whole shares, remainders, ranks and lengths of floating parts.
 ghost use Rattle.std.specs.Prelude.{◌≡◌, ℕ, ◌+◌, ◌-◌, ◌*◌, ◌/◌, ◌%◌, ◌<◌, ◌≤◌, length, slice_index};
-ghost use Rattle.rows.specs.Apportion.{whole, remainder, left_over, tie, comes, before, rank_by, extra as extraOf, floating};
+ghost use Rattle.rows.specs.Apportion.{whole, remainder, left_over, tie, comes, before, rank_by, extra as extra_of, floating};
 ghost use Rattle.rows.specs.Rows.{weight_at, weight_sum};
 ghost use Rattle.rows.specs.Lengths.{length_at};
 
@@ -46,7 +46,7 @@ fn rank_of(remainders: &[u32; 16], n: usize, i: usize) -> u32
 
 // One more millimetre for a part of a rank below the millimetres left.
 pub(crate) fn extra(rank: u32, left: u32) -> Mm
-    ensures { (result.0 ≡ extraOf rank left) × (result.0 ≤ left) }
+    ensures { (result.0 ≡ extra_of rank left) × (result.0 ≤ left) }
 {
     if rank < left { Mm(1) } else { Mm(0) }
 }

@@ -1,4 +1,6 @@
 // The rows of a harbour front of 14,000 mm, as the saw would cut them.
+#![tactic(auto)]
+
 use anyhow::anyhow;
 use geometry::units::{Mm, Weight};
 use rows::parts::Parts;

@@ -1,5 +1,5 @@
 -- What a sink tells after blocks that it took one after another.
-use Rattle.std.proofs.Common.{◌≡◌, ℕ, ◌+◌, ◌*◌, ◌/◌, ◌<◌, List, [], ◌∷◌, ◌++◌, length, get_or, take, Some, None, Ok, Err, sym, refl, ap, ◌∙◌, subst, arith}
+use Rattle.std.proofs.Common.{◌≡◌, ℕ, ◌+◌, ◌*◌, ◌/◌, ◌<◌, List, [], ◌∷◌, ◌++◌, length, get_or, take, Some, None, Err, sym, refl, ap, ◌∙◌, subst, arith}
 use Rattle.std.proofs.lemmas.List.{take_more, take_all, get_or_read}
 use Rattle.std.proofs.lemmas.Option.{MatchOption-at_none}
 use Rattle.geometry.specs.declared.block.Block.{Block}
@@ -7,8 +7,8 @@ use Rattle.geometry.specs.declared.cell.Cell.{Cell}
 use Rattle.geometry.specs.Limits.{site}
 use Rattle.geometry.specs.Sums.{sum_of}
 use Rattle.geometry.specs.Boxes.{volume_of, shared_with}
-use Rattle.sinks.specs.Meaning.{Parts, Empty, Chain, Takes, Taken, Taking, PowerOfTwo, over_materials, shared_by}
-use Rattle.sinks.specs.Laws.{GrownBy, BlocksTold, CellsAddUp, Agree, SinksAgree, Offers, over_cells, inner}
+use Rattle.sinks.specs.Meaning.{Parts, Chain, Takes, Taken, Taking, PowerOfTwo, over_materials, shared_by}
+use Rattle.sinks.specs.Laws.{BlocksTold, CellsAddUp, SinksAgree, Offers, inner}
 use Rattle.sinks.specs.declared.offers.Offered.{Offered}
 use Rattle.sinks.specs.declared.refusal.SinkRefusal.{SinkRefusal}
 use Rattle.sinks.proofs.Materials.{over_at, over_none}

@@ -1,5 +1,5 @@
 -- Sums over the materials, and numbers for a block's own material.
-use Rattle.std.proofs.Common.{◌≡◌, ℕ, zero, suc, ◌+◌, ◌*◌, ◌<◌, ◌≤◌, true, false, cond, eqb, ◌≢◌, List, length, get_or, set, sym, refl, ap, ◌∙◌, ⊎_elim, mul-le-mul, arith}
+use Rattle.std.proofs.Common.{◌≡◌, ℕ, zero, suc, ◌+◌, ◌<◌, ◌≤◌, cond, eqb, ◌≢◌, List, length, get_or, set, sym, ap, ◌∙◌, ⊎_elim, mul-le-mul, arith}
 use Rattle.std.proofs.lemmas.List.{get_or-set_same, get_or-set_other}
 use Rattle.std.proofs.lemmas.Bool.{cases_lt, cases_eq, eq-eqb, ne_eqb}
 use Rattle.geometry.specs.Sums.{total}
@@ -7,6 +7,7 @@ use Rattle.geometry.specs.Boxes.{volume_of}
 use Rattle.geometry.specs.declared.cuboid.Cuboid.{Cuboid}
 use Rattle.geometry.proofs.Totals.{total_same, total_part}
 use Rattle.geometry.specs.declared.block.Block.{Block}
+use Rattle.sinks.specs.declared.tally.MaterialSums.{MaterialSums}
 use Rattle.sinks.specs.declared.tally.Tallies.{Tallies}
 use Rattle.sinks.specs.Meaning.{over_materials, materials}
 use Rattle.sinks.specs.Tallied.{count_of, volume_held, drawn_of, Noted}
@@ -24,6 +25,10 @@ same_not k m v e = ap (λ b. cond b v 0) (ne_eqb k m e)
 pub part_le : (f : ℕ → ℕ) (m : ℕ) → m < materials → f m ≤ over_materials f
 unfolding over_materials
 part_le f m h = total_part f materials m h
+
+-- the number of a material is no more than all
+pub number_le : (s : MaterialSums) (m : ℕ) → m < materials → get_or s.each m 0 ≤ s.all
+number_le s m h = omega (arith, part_le (λ k. get_or s.each k 0) m h, s.summed)
 
 -- v more at one place is v more in the sum
 total_at : (f g : ℕ → ℕ) (m v n : ℕ) → ((k : ℕ) → g k ≡ f k + cond (eqb k m) v 0) → m < n → total g n ≡ total f n + v

@@ -1,5 +1,5 @@
 -- What a box shares with the cells of a grid: at most its volume, nothing beyond the site.
-use Rattle.std.proofs.Common.{◌≡◌, ℕ, ◌+◌, ◌-◌, ◌*◌, ◌/◌, ◌<◌, ◌≤◌, min, max, Bool, true, false, cond, ◌&&◌, ltb, ◌⊎◌, sym, refl, ap, ◌∙◌, inl, inr, ⊎_elim, mul-le-mul_right, mul_comm, mul-le-mul, mul-zero, zero-mul, arith}
+use Rattle.std.proofs.Common.{◌≡◌, ℕ, ◌*◌, ◌/◌, ◌<◌, ◌≤◌, true, false, cond, ltb, sym, refl, ap, ◌∙◌, ⊎_elim, mul-le-mul_right, mul-le-mul, mul-zero, zero-mul, arith}
 use Rattle.std.proofs.lemmas.Bool.{and_cases, and_parts, ltb-false, ltb-true, cases_Bool}
 use Rattle.geometry.specs.declared.span.Span.{Span}
 use Rattle.geometry.specs.declared.cuboid.Cuboid.{Cuboid}

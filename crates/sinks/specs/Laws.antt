@@ -1,5 +1,5 @@
 -- Laws over the blocks that a sink took.
-use Rattle.std.specs.Prelude.{◌≡◌, ℕ, ◌+◌, ◌*◌, ◌/◌, ◌<◌, ◌≤◌, List, [], ◌∷◌, length, take, Ok, Err, MatchOption, slice_index_or}
+use Rattle.std.specs.Prelude.{◌≡◌, ℕ, ◌+◌, ◌*◌, ◌/◌, ◌<◌, ◌≤◌, List, length, take, Err, MatchOption, slice_index_or}
 use Rattle.geometry.specs.declared.block.Block.{Block}
 use Rattle.geometry.specs.declared.cell.Cell.{Cell}
 use Rattle.geometry.specs.Limits.{site}

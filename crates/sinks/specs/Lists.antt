@@ -1,5 +1,5 @@
 -- What a block list means.
-use Rattle.std.specs.Prelude.{◌≡◌, ℕ, ◌+◌, List, [], ◌∷◌, ◌++◌, length, take, drop, nat_lt}
+use Rattle.std.specs.Prelude.{◌≡◌, List, [], ◌∷◌, ◌++◌, length, take, drop, nat_lt}
 use Rattle.geometry.specs.declared.block.Block.{Block}
 use Rattle.sinks.specs.Meaning.{Parts, shared_by}
 use Rattle.sinks.specs.Tallied.{count_of, volume_held}

@@ -1,4 +1,6 @@
 // What takes blocks: the trait, its meaning, the tallies that every sink keeps, the block list and the raster.
+#![tactic(auto)]
+
 pub mod grid;
 pub mod laws;
 pub mod list;

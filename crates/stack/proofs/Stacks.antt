@@ -1,8 +1,8 @@
 -- What one entry more or less does to the entries held.
-use Rattle.std.proofs.Common.{◌≡◌, ℕ, ◌+◌, ◌-◌, ◌<◌, ◌≤◌, min, List, [], ◌∷◌, ◌++◌, reverse, length, get_or, take, drop, set, Some, None, Option, sym, refl, ap, ◌∙◌, ⊎_elim, arith}
+use Rattle.std.proofs.Common.{◌≡◌, ℕ, ◌+◌, ◌<◌, min, List, [], ◌∷◌, reverse, length, get_or, take, drop, set, Some, None, sym, refl, ap, ◌∙◌, ⊎_elim, arith}
 use Rattle.std.proofs.lemmas.List.{length-reverse, length-set, length-take, take_more_set, take_more, take_all, reverse-append, nil_from_length}
 use Rattle.std.proofs.lemmas.Bool.{cases_lt}
-use Rattle.stack.specs.Held.{held, entries, capacity, top_of, Put, LastOf}
+use Rattle.stack.specs.Held.{held, entries, capacity, top_of, LastOf}
 use Rattle.stack.specs.Moves.{Becomes, Kept, Popped}
 use Rattle.stack.specs.declared.Stack.{Stack}
 

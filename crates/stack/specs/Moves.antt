@@ -1,5 +1,5 @@
 -- What each call does to a stack.
-use Rattle.std.specs.Prelude.{◌≡◌, ℕ, ◌<◌, List, [], ◌∷◌, length, drop, Ok, Err, Result, slice_set}
+use Rattle.std.specs.Prelude.{◌≡◌, ◌<◌, List, ◌∷◌, length, drop, Ok, Err, Result, slice_set}
 use Rattle.stack.specs.Held.{entries, capacity}
 use Rattle.stack.specs.declared.Full.{Full}
 use Rattle.stack.specs.declared.Stack.{Stack}

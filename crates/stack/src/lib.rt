@@ -1,4 +1,6 @@
 // A stack over a slice that the caller lends. It passes its slice whole to the functions below, which read and write it.
+#![tactic(auto)]
+
 ghost use Rattle.std.specs.Prelude.{◌≡◌, ℕ, ◌-◌, ◌<◌, min, [], length};
 ghost use Rattle.stack.specs.Held.{held, entries, capacity, top_of, Put, LastOf};
 ghost use Rattle.stack.specs.Moves.{Kept, Pushed, Popped};

@@ -1,5 +1,5 @@
 -- Rows that are laid, and steps.
-use Rattle.std.proofs.Common.{◌≡◌, ℕ, zero, suc, ◌<◌, ◌≤◌, List, [], ◌∷◌, ◌++◌, length, take, drop, replicate, IfOk, Ok, Err, Result, sym, refl, ap, ◌∙◌, subst, inl, arith, length-take}
+use Rattle.std.proofs.Common.{◌≡◌, ℕ, zero, suc, ◌<◌, ◌≤◌, List, [], ◌∷◌, length, take, drop, replicate, IfOk, Ok, Err, Result, sym, refl, ap, ◌∙◌, subst, inl, arith, length-take}
 use Rattle.std.proofs.lemmas.List.{length-map, length-replicate, take-replicate}
 use Rattle.geometry.specs.declared.axis.Axis.{Axis}
 use Rattle.geometry.specs.declared.scope.Scope.{Scope}
@@ -14,8 +14,7 @@ use Rattle.rows.specs.declared.row.Row.{Row}
 use Rattle.rows.specs.declared.refusal.RowRefusal.{RowRefusal}
 use Rattle.rows.specs.Rows.{sizes, parts_of, split_row, repeat_row, told, told_of, segments_of}
 use Rattle.rows.specs.Laws.{Shared, Lawful}
-use Rattle.book.specs.declared.body.Body.{Body}
-use Rattle.book.specs.declared.body.Body.TheVariants.{Make, Use, Repeat, Split}
+use Rattle.book.specs.declared.body.Body.TheVariants.{Use, Repeat, Split}
 use Rattle.book.specs.declared.line.Line.{Line}
 use Rattle.book.specs.Checks.{part_rules}
 use Rattle.book.specs.Lines.{Known}

@@ -1,5 +1,5 @@
 -- What a step does to the waiting scopes and to the sink, and why it is refused.
-use Rattle.std.specs.Prelude.{◌≡◌, ℕ, ◌+◌, ◌<◌, ◌≤◌, List, [], ◌∷◌, ◌++◌, length, drop, replicate, Ok, Err, Result}
+use Rattle.std.specs.Prelude.{◌≡◌, ℕ, ◌<◌, ◌≤◌, List, [], ◌∷◌, ◌++◌, length, drop, Ok, Err, Result}
 use Rattle.geometry.specs.declared.scope.Scope.{Scope}
 use Rattle.geometry.specs.declared.block.Block.{Block}
 use Rattle.rows.specs.Rows.{sizes, parts_of, split_row, repeat_row}

@@ -80,7 +80,7 @@ fn make<S: Sink>(
     material: u8,
 ) -> Result<(), Reason>
     requires top { entries stack.old ≡ scope ∷ drop 1 (entries stack.old) }
-    ensures acts { Acts edge parts took kept (Body.Make material) scope (entries stack.old) (entries stack.new) (capacity stack.old) sink.old sink.new result }
+    ensures acts { Acts S.Sink.edge S.Sink.parts S.Sink.took S.Sink.kept (Body.Make material) scope (entries stack.old) (entries stack.new) (capacity stack.old) sink.old sink.new result }
     ensures slice { SameSlice stack.old stack.new }
 {
     match sink.take(block_of(scope, material)) {
@@ -101,7 +101,7 @@ fn act<S: Sink>(
 ) -> Result<(), Reason>
     requires top { entries stack.old ≡ scope ∷ drop 1 (entries stack.old) }
     requires ok { BodyOk i body.now }
-    ensures acts { Acts edge parts took kept body.now scope (entries stack.old) (entries stack.new) (capacity stack.old) sink.old sink.new result }
+    ensures acts { Acts S.Sink.edge S.Sink.parts S.Sink.took S.Sink.kept body.now scope (entries stack.old) (entries stack.new) (capacity stack.old) sink.old sink.new result }
     ensures slice { SameSlice stack.old stack.new }
 {
     match *body {
@@ -133,7 +133,7 @@ pub(crate) fn advance<S: Sink>(
     stack: &mut Stack<'_, Scope>,
     sink: &mut S,
 ) -> Step
-    ensures steps { Stepped edge parts took kept (lines_of table.now) (entries stack.old) (entries stack.new) (capacity stack.old) sink.old sink.new result }
+    ensures steps { Stepped S.Sink.edge S.Sink.parts S.Sink.took S.Sink.kept (lines_of table.now) (entries stack.old) (entries stack.new) (capacity stack.old) sink.old sink.new result }
     ensures slice { SameSlice stack.old stack.new }
 {
     let Some(scope) = stack.top() else {

@@ -18,7 +18,7 @@ fn run_stack<S: Sink>(
     sink: &mut S,
     budget: u32,
 ) -> (u32, Ending)
-    ensures ran { Ran edge parts took kept (lines_of table.now) (entries stack.old) (entries stack.new) (capacity stack.old) sink.old sink.new budget result.0 result.1 }
+    ensures ran { Ran S.Sink.edge S.Sink.parts S.Sink.took S.Sink.kept (lines_of table.now) (entries stack.old) (entries stack.new) (capacity stack.old) sink.old sink.new budget result.0 result.1 }
     ensures slice { SameSlice stack.old stack.new }
 {
     let mut steps = 0;
@@ -44,7 +44,7 @@ pub fn run_slots<S: Sink>(
     sink: &mut S,
     budget: u32,
 ) -> (u32, Ending, usize)
-    ensures { Ran edge parts took kept (lines_of table.now) (held slots.old mark) (held slots.new result.2) (length slots.old) sink.old sink.new budget result.0 result.1 }
+    ensures { Ran S.Sink.edge S.Sink.parts S.Sink.took S.Sink.kept (lines_of table.now) (held slots.old mark) (held slots.new result.2) (length slots.old) sink.old sink.new budget result.0 result.1 }
 {
     let mut stack = Stack::resume(slots, mark);
     let (steps, ending) = run_stack(table, &mut stack, sink, budget);

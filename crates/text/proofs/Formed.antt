@@ -1,9 +1,9 @@
 -- The runs among the tokens of a line are whole.
-use Rattle.std.proofs.Common.{◌≡◌, ℕ, ◌+◌, ◌-◌, ◌<◌, ◌≤◌, Bool, true, false, cond, not, ◌&&◌, ◌||◌, eqb, ltb, ◌⊎◌, List, [], ◌∷◌, ◌++◌, length, get_or, sym, refl, ap, ◌∙◌, inl, inr, ⊎_elim, arith}
-use Rattle.std.proofs.lemmas.List.{append-nil, length_push}
+use Rattle.std.proofs.Common.{◌≡◌, ℕ, ◌+◌, ◌<◌, ◌≤◌, Bool, true, false, cond, not, eqb, ◌⊎◌, List, [], ◌∷◌, ◌++◌, length, get_or, refl, ap, inl, inr, ⊎_elim, arith}
+use Rattle.std.proofs.lemmas.List.{length_push}
 use Rattle.std.proofs.lemmas.Bool.{and_from, and_parts, or_left, or_right, lt-ltb, not_from_false}
 use Rattle.text.specs.Bytes.{is_digit, is_space, separates}
-use Rattle.text.specs.Tokens.{Lexeme, opening, closing, number, word, run_of, ended, lexed, tokens_of, spelled, is_run, is_formed, are_formed, is_bracket, are_apart, Tokenized}
+use Rattle.text.specs.Tokens.{Lexeme, opening, closing, number, word, run_of, ended, lexed, tokens_of, is_run, is_formed, are_formed, is_bracket, are_apart, Tokenized}
 use Rattle.text.proofs.LaidOut.{From, lexed_from, spelled_cond, laid_out_lem}
 
 no_sep : (b : ℕ) → is_space b ≡ false → eqb b 40 ≡ false → eqb b 41 ≡ false → separates b ≡ false

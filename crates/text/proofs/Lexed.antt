@@ -1,5 +1,5 @@
 -- One byte more of a line's lexemes.
-use Rattle.std.proofs.Common.{◌≡◌, ℕ, ◌+◌, ◌-◌, ◌<◌, ◌≤◌, Bool, true, false, cond, ◌&&◌, ◌||◌, eqb, leb, List, [], ◌∷◌, ◌++◌, length, get_or, take, drop, sym, refl, ap, ◌∙◌, ⊎_elim, add-zero, arith}
+use Rattle.std.proofs.Common.{◌≡◌, ℕ, ◌+◌, ◌-◌, ◌<◌, ◌≤◌, Bool, true, false, cond, ◌||◌, eqb, List, [], ◌∷◌, ◌++◌, length, get_or, drop, sym, refl, ap, ◌∙◌, ⊎_elim, add-zero, arith}
 use Rattle.std.proofs.lemmas.List.{at_drop_more, at_drop_all, append-nil}
 use Rattle.std.proofs.lemmas.Bool.{cond-true, cond-false, cases_lt, eq-eqb, ne_eqb, cases_Bool, both_ways}
 use Rattle.std.proofs.lemmas.List.Edits.{length-between, get_or-between}
@@ -8,7 +8,7 @@ use Rattle.std.proofs.lemmas.Bool.Decides.{nat_tests}
 use Rattle.text.specs.Bytes.{kind_of, is_digit, is_space, separates}
 use Rattle.text.specs.Tokens.{lexed, ended, tokens_at, opening, closing, number, word, Lexeme, run_of, RunTo}
 use Rattle.text.specs.declared.bytes.Kind.{Kind}
-use Rattle.text.specs.declared.bytes.Kind.TheVariants.{Letter, Digit, Hyphen, Space, Open, Close, Other}
+use Rattle.text.specs.declared.bytes.Kind.TheVariants.{Digit, Open, Close}
 
 pub skip_more : (xs : List ℕ) (i : ℕ) → i < length xs → is_space (get_or xs i 0) ≡ true → tokens_at xs i ≡ tokens_at xs (i + 1)
 skip_more xs i h e = at_drop_more (lexed (i + 1) []) xs i 0 h ∙ cond-true _ _ _ e

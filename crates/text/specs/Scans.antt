@@ -1,5 +1,5 @@
 -- The judgement on brackets as one pass with a stack; that it gives the same is proved.
-use Rattle.std.specs.Prelude.{◌≡◌, ℕ, ◌+◌, Bool, true, false, cond, List, [], ◌∷◌, length, drop, Some, None, Option, ◌==◌, nat_lt}
+use Rattle.std.specs.Prelude.{◌≡◌, ℕ, ◌+◌, Bool, true, false, cond, List, [], ◌∷◌, length, drop, Some, Option, ◌==◌, nat_lt}
 use Rattle.stack.specs.Held.{top_of}
 use Rattle.text.specs.Findings.{levels}
 

@@ -1,4 +1,6 @@
 // Lines, tokens, numbers and names of a file of bytes, and what can be wrong with the bytes of a line.
+#![tactic(auto)]
+
 mod bytes;
 pub mod findings;
 pub mod lines;

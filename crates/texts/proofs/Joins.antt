@@ -1,5 +1,5 @@
 -- The text of blocks is the join of their lines.
-use Rattle.std.proofs.Common.{◌≡◌, ℕ, ◌+◌, cond, eqb, List, [], ◌∷◌, ◌++◌, take, Some, None, Err, Option, Result, sym, refl, ap, ◌∙◌, subst, arith, MatchOption}
+use Rattle.std.proofs.Common.{◌≡◌, ℕ, List, [], ◌∷◌, ◌++◌, take, Some, None, Err, Option, Result, sym, refl, ap, ◌∙◌, subst, arith, MatchOption}
 use Rattle.std.proofs.lemmas.List.{append-nil, append_assoc}
 use Rattle.geometry.specs.declared.block.Block.{Block}
 use Rattle.sinks.specs.declared.refusal.SinkRefusal.{SinkRefusal}

@@ -1,5 +1,5 @@
 -- The one cell of a sink whose cells have the edge of the site.
-use Rattle.std.proofs.Common.{◌≡◌, ℕ, ◌+◌, ◌<◌, Bool, true, false, cond, sym, refl, ap, ◌∙◌, arith}
+use Rattle.std.proofs.Common.{◌≡◌, ℕ, ◌+◌, ◌<◌, Bool, true, false, cond, sym, ap, ◌∙◌, arith}
 use Rattle.geometry.specs.declared.block.Block.{Block}
 use Rattle.geometry.specs.declared.cell.Cell.{Cell}
 use Rattle.geometry.specs.Limits.{site}

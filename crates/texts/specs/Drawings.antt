@@ -1,5 +1,5 @@
 -- The OBJ lines of a block.
-use Rattle.std.specs.Prelude.{◌≡◌, ℕ, ◌+◌, ◌-◌, ◌*◌, ◌/◌, ◌%◌, Bool, cond, List, [], ◌∷◌, ◌++◌, ◌==◌, nat_le, slice_index, slice_index_or}
+use Rattle.std.specs.Prelude.{ℕ, ◌+◌, ◌*◌, ◌/◌, ◌%◌, Bool, cond, List, [], ◌∷◌, ◌++◌, ◌==◌, nat_le, slice_index, slice_index_or}
 use Rattle.geometry.specs.declared.span.Span.{Span}
 use Rattle.geometry.specs.declared.cuboid.Cuboid.{Cuboid}
 use Rattle.geometry.specs.declared.block.Block.{Block}

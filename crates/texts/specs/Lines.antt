@@ -2,9 +2,8 @@
 use Rattle.std.specs.Prelude.{ℕ, zero, suc, List, [], ◌∷◌, ◌++◌, take, Some, None, codes, decimal, Option}
 use Rattle.std.specs.List.{flat_map}
 use Rattle.texts.specs.declared.line.Line.{Line}
-use Rattle.texts.specs.declared.line.LongLine.{LongLine}
 use Rattle.texts.specs.declared.line.LineKind.{LineKind}
-use Rattle.texts.specs.declared.line.LineKind.TheVariants.{Group, Vertex, Face, Material, Sum, Done, Spent, Stop, RulesRefused, LotsRefused, Block}
+use Rattle.texts.specs.declared.line.LineKind.TheVariants.{Group, Vertex, Face, Material, Sum}
 
 -- how a line of each kind begins
 abbrev pub start_of : LineKind → List ℕ
@@ -13,12 +12,6 @@ start_of Vertex = codes "v "
 start_of Face = codes "f "
 start_of Material = codes "(m"
 start_of Sum = codes "(total "
-start_of Done = codes "(done "
-start_of Spent = codes "(spent "
-start_of Stop = codes "(stop "
-start_of RulesRefused = codes "(refused rules "
-start_of LotsRefused = codes "(refused lots "
-start_of Block = codes "(block "
 
 -- how it ends; 10 is the line feed, 41 the closing bracket
 abbrev pub end_of : LineKind → List ℕ
@@ -27,12 +20,6 @@ end_of Vertex = 10 ∷ []
 end_of Face = 10 ∷ []
 end_of Material = 41 ∷ 10 ∷ []
 end_of Sum = 41 ∷ 10 ∷ []
-end_of Done = 41 ∷ 10 ∷ []
-end_of Spent = 41 ∷ 10 ∷ []
-end_of Stop = 41 ∷ 10 ∷ []
-end_of RulesRefused = 41 ∷ 10 ∷ []
-end_of LotsRefused = 41 ∷ 10 ∷ []
-end_of Block = 41 ∷ 10 ∷ []
 
 -- numbers, each after a space
 abbrev pub spaced : List ℕ → List ℕ
@@ -46,10 +33,6 @@ line_text k first others = start_of k ++ decimal first ++ spaced others ++ end_o
 abbrev pub text_of : Option Line → List ℕ
 text_of None = []
 text_of (Some l) = line_text l.kind l.first (take l.many l.others)
-
--- the text of a line with more numbers
-abbrev pub long_text : LongLine → List ℕ
-long_text l = line_text l.kind l.first (take l.many l.others)
 
 -- f 0, f 1, .. f (n - 1), joined
 unfoldable pub up_to : (ℕ → List ℕ) → ℕ → List ℕ

@@ -5,12 +5,14 @@ ghost use Rattle.geometry.specs.declared.block.Block.{Block};
 ghost use Rattle.sinks.specs.Meaning.{HandsOut, Empty, Tells, in_grid};
 ghost use Rattle.sinks.specs.Tallied.{count_of, volume_held};
 ghost use Rattle.texts.specs.Writing.{Wrote};
-ghost use Rattle.texts.specs.Lines.{text_of, long_text};
+ghost use Rattle.texts.specs.Lines.{text_of};
+ghost use Rattle.texts.specs.LongLines.{long_text};
 ghost use Rattle.texts.specs.Bills.{material_line, sum_line, bill_text, site_cell, bill_parts};
 
-use crate::line::{Line, LineKind, LongLine};
+use crate::line::{Line, LineKind};
 use crate::lines::{Lines, line_at, line_len, lines_at, lines_len};
 use crate::long::{long_at, long_len};
+use crate::long_line::LongLine;
 use geometry::block::Block;
 use geometry::cell::Cell;
 use geometry::limits::SITE;

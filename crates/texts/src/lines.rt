@@ -1,23 +1,10 @@
 // Measuring and writing lines.
-ghost use Rattle.std.specs.Prelude.{◌≡◌, ℕ, ◌+◌, ◌*◌, ◌≤◌, List, length, take, Some};
-ghost use Rattle.texts.specs.declared.line.LineKind.TheVariants.{RulesRefused, LotsRefused};
+ghost use Rattle.std.specs.Prelude.{◌≡◌, ℕ, ◌+◌, ◌*◌, ◌≤◌, ◌++◌, List, length, take, decimal, Some};
 ghost use Rattle.texts.specs.Writing.{Wrote};
 ghost use Rattle.texts.specs.Lines.{start_of, end_of, spaced, line_text, text_of, up_to};
 
 use crate::bytes::{decimal_len, number_at, spaced_at, text_at};
 use crate::line::{Line, LineKind};
-
-fn rules_refused() -> &'static [u8]
-    ensures { result.now ≡ start_of RulesRefused }
-{
-    b"(refused rules "
-}
-
-fn lots_refused() -> &'static [u8]
-    ensures { result.now ≡ start_of LotsRefused }
-{
-    b"(refused lots "
-}
 
 fn start_of(kind: LineKind) -> &'static [u8]
     ensures { result.now ≡ start_of kind }
@@ -28,12 +15,6 @@ fn start_of(kind: LineKind) -> &'static [u8]
         LineKind::Face => b"f ",
         LineKind::Material => b"(m",
         LineKind::Sum => b"(total ",
-        LineKind::Done => b"(done ",
-        LineKind::Spent => b"(spent ",
-        LineKind::Stop => b"(stop ",
-        LineKind::RulesRefused => rules_refused(),
-        LineKind::LotsRefused => lots_refused(),
-        LineKind::Block => b"(block ",
     }
 }
 
@@ -43,8 +24,6 @@ fn end_of(kind: LineKind) -> &'static [u8]
     match kind {
         LineKind::Group | LineKind::Vertex | LineKind::Face => b"\n",
         LineKind::Material | LineKind::Sum => b")\n",
-        LineKind::Done | LineKind::Spent | LineKind::Stop => b")\n",
-        LineKind::RulesRefused | LineKind::LotsRefused | LineKind::Block => b")\n",
     }
 }
 
@@ -73,30 +52,32 @@ fn numbers_at(out: &mut [u8], at: usize, numbers: &[u64]) -> usize
     p
 }
 
-// How many bytes a line of that kind with these numbers has.
-pub(crate) fn numbered_len(kind: LineKind, first: u64, others: &[u64]) -> usize
-    requires { length others.now ≤ 7 }
-    ensures value { result ≡ length (line_text kind first others.now) }
+// How many bytes these numbers have with spaces between, a start and an end.
+pub(crate) fn numbered_len(start: &[u8], first: u64, others: &[u64], end: &[u8]) -> usize
+    requires few { length others.now ≤ 7 }
+    requires short { length start.now + length end.now ≤ 17 }
+    ensures value { result ≡ length (start.now ++ decimal first ++ spaced others.now ++ end.now) }
     ensures bound { result ≤ 37 + 21 * length others.now }
 {
-    start_of(kind).len() + decimal_len(first) + spaced_len(others) + end_of(kind).len()
+    start.len() + decimal_len(first) + spaced_len(others) + end.len()
 }
 
-// Writes such a line from a place of the buffer on, and answers where it ends.
+// Writes them so from a place of the buffer on, and answers where they end.
 pub(crate) fn numbered_at(
     out: &mut [u8],
     at: usize,
-    kind: LineKind,
+    start: &[u8],
     first: u64,
     others: &[u64],
+    end: &[u8],
 ) -> usize
-    requires { at + length (line_text kind first others.now) ≤ length out.old }
-    ensures { Wrote out.old at (line_text kind first others.now) out.new result }
+    requires { at + length (start.now ++ decimal first ++ spaced others.now ++ end.now) ≤ length out.old }
+    ensures { Wrote out.old at (start.now ++ decimal first ++ spaced others.now ++ end.now) out.new result }
 {
-    let a = text_at(out, at, start_of(kind));
+    let a = text_at(out, at, start);
     let b = number_at(out, a, first);
     let c = numbers_at(out, b, others);
-    text_at(out, c, end_of(kind))
+    text_at(out, c, end)
 }
 
 // The numbers of a line after the first.
@@ -112,7 +93,12 @@ pub(crate) fn line_len(line: &Line) -> usize
     ensures value { result ≡ length (text_of (Some line.now)) }
     ensures bound { result ≤ 100 }
 {
-    numbered_len(line.kind, line.first, others_of(line))
+    numbered_len(
+        start_of(line.kind),
+        line.first,
+        others_of(line),
+        end_of(line.kind),
+    )
 }
 
 // Writes a line from a place of the buffer on, and answers where it ends.
@@ -120,7 +106,14 @@ pub(crate) fn line_at(out: &mut [u8], at: usize, line: &Line) -> usize
     requires { at + length (text_of (Some line.now)) ≤ length out.old }
     ensures { Wrote out.old at (text_of (Some line.now)) out.new result }
 {
-    numbered_at(out, at, line.kind, line.first, others_of(line))
+    numbered_at(
+        out,
+        at,
+        start_of(line.kind),
+        line.first,
+        others_of(line),
+        end_of(line.kind),
+    )
 }
 
 // The same of a line that may be none.
@@ -155,7 +148,7 @@ pub(crate) trait Lines {
 // How many bytes the first n lines have.
 pub(crate) fn lines_len<L: Lines>(lines: &L, n: usize) -> usize
     requires { n ≤ 16 }
-    ensures value { result ≡ length (up_to (line lines.now) n) }
+    ensures value { result ≡ length (up_to (L.Lines.line lines.now) n) }
     ensures bound { result ≤ 1600 }
 {
     let mut sum = 0;
@@ -167,8 +160,8 @@ pub(crate) fn lines_len<L: Lines>(lines: &L, n: usize) -> usize
 
 // Writes the first n lines from a place of the buffer on, and answers where they end.
 pub(crate) fn lines_at<L: Lines>(out: &mut [u8], at: usize, lines: &L, n: usize) -> usize
-    requires { at + length (up_to (line lines.now) n) ≤ length out.old }
-    ensures { Wrote out.old at (up_to (line lines.now) n) out.new result }
+    requires { at + length (up_to (L.Lines.line lines.now) n) ≤ length out.old }
+    ensures { Wrote out.old at (up_to (L.Lines.line lines.now) n) out.new result }
 {
     let mut p = at;
     for i in 0..n {

@@ -1,12 +1,44 @@
 // Measuring and writing lines of many numbers.
 ghost use Rattle.std.specs.Prelude.{◌≡◌, ◌+◌, ◌≤◌, length, take};
+ghost use Rattle.texts.specs.declared.long_line.LongKind.TheVariants.{RulesRefused, LotsRefused};
 ghost use Rattle.sinks.specs.Meaning.{HandsOut};
 ghost use Rattle.texts.specs.Writing.{Wrote};
-ghost use Rattle.texts.specs.Lines.{long_text};
+ghost use Rattle.texts.specs.LongLines.{word_of, bracket_end, long_text};
 
-use crate::line::LongLine;
 use crate::lines::{numbered_at, numbered_len};
+use crate::long_line::{LongKind, LongLine};
 use sinks::refusal::SinkRefusal;
+
+fn rules_refused() -> &'static [u8]
+    ensures { result.now ≡ word_of RulesRefused }
+{
+    b"(refused rules "
+}
+
+fn lots_refused() -> &'static [u8]
+    ensures { result.now ≡ word_of LotsRefused }
+{
+    b"(refused lots "
+}
+
+fn word_of(kind: LongKind) -> &'static [u8]
+    ensures { result.now ≡ word_of kind }
+{
+    match kind {
+        LongKind::Done => b"(done ",
+        LongKind::Spent => b"(spent ",
+        LongKind::Stop => b"(stop ",
+        LongKind::RulesRefused => rules_refused(),
+        LongKind::LotsRefused => lots_refused(),
+        LongKind::Block => b"(block ",
+    }
+}
+
+fn bracket_end() -> &'static [u8]
+    ensures { result.now ≡ bracket_end }
+{
+    b")\n"
+}
 
 // The numbers of a line after the first.
 fn others_of(line: &LongLine) -> &[u64]
@@ -21,7 +53,12 @@ pub(crate) fn long_len(line: &LongLine) -> usize
     ensures value { result ≡ length (long_text line.now) }
     ensures bound { result ≤ 184 }
 {
-    numbered_len(line.kind, line.first, others_of(line))
+    numbered_len(
+        word_of(line.kind),
+        line.first,
+        others_of(line),
+        bracket_end(),
+    )
 }
 
 // Writes a line from a place of the buffer on, and answers where it ends.
@@ -29,7 +66,14 @@ pub(crate) fn long_at(out: &mut [u8], at: usize, line: &LongLine) -> usize
     requires { at + length (long_text line.now) ≤ length out.old }
     ensures { Wrote out.old at (long_text line.now) out.new result }
 {
-    numbered_at(out, at, line.kind, line.first, others_of(line))
+    numbered_at(
+        out,
+        at,
+        word_of(line.kind),
+        line.first,
+        others_of(line),
+        bracket_end(),
+    )
 }
 
 impl LongLine {

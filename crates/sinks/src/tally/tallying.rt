@@ -139,6 +139,7 @@ impl Tallies {
     }
 
     // All blocks but the void ones.
+    #[tactic(auto, using(crate::proofs::Materials::number_le))]
     pub fn drawn(&self) -> u64
         ensures value { result ≡ drawn_of self.now }
         ensures bound { result ≤ limit }

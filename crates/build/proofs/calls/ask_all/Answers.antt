@@ -1,4 +1,4 @@
-use Rattle.std.proofs.Common.{◌≡◌, List, [], ◌++◌, take, Some, sym, ap, subst}
+use Rattle.std.proofs.Common.{List, Some, sym, subst}
 use Rattle.std.proofs.lemmas.List.{append-nil, take_all}
 use Rattle.build.specs.declared.calls.Call.TheVariants.{Sink}
 use Rattle.build.specs.declared.calls.SinkCall.{SinkCall}

@@ -1,4 +1,4 @@
-use Rattle.std.proofs.Common.{◌≡◌, ℕ, true, List, ◌∷◌, Some, sym, ap, subst}
+use Rattle.std.proofs.Common.{ℕ, true, List, ◌∷◌, Some, sym, ap, subst}
 use Rattle.geometry.specs.declared.scope.Scope.{Scope}
 use Rattle.build.specs.Builds.{waiting_in, steps_of, lines_in, space_of}
 use Rattle.build.specs.History.{History, ran, waited, run, wait}

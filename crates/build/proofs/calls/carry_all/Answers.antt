@@ -1,4 +1,4 @@
-use Rattle.std.proofs.Common.{List, get_or, take, Some, sym, refl, ◌∙◌, subst}
+use Rattle.std.proofs.Common.{List, get_or, Some, sym, refl, ◌∙◌, subst}
 use Rattle.std.proofs.lemmas.List.{append-nil, take_all}
 use Rattle.build.specs.declared.calls.Call.{Call}
 use Rattle.build.specs.declared.calls.Call.TheVariants.{Run}

@@ -11,7 +11,7 @@ use Rattle.build.proofs.calls.carry_out.Goals as goal
 pub returns : goal.returns
 returns g c = λ empty.
     let first = c.open-build.result.build in
-    let last = c.carry-all.new.build in
+    let last = c.carry_all.new.build in
     let joined = c.args.joined in
     let lots = passed (length c.args.slots.now) (lots_of joined) in
     let start = c.args.sink.now in
@@ -20,10 +20,10 @@ returns g c = λ empty.
     let few = passed_few (length c.args.slots.now) (lots_of joined) (omega (arith, length-take joined.count joined.lots, joined.few)) in
     let at_first = opened_at g.S.Sink.edge g.S.Sink.parts g.S.Sink.took g.S.Sink.kept g.S.Sink.text (lines_in first) (space_of first) lots (waiting_in first) (steps_of first) start
     c.open-build.ensures.waits c.open-build.ensures.steps in
-    let so = c.carry-all.ensures.more lots start [] at_first in
+    let so = c.carry_all.ensures.more lots start [] at_first in
     let shut = close r so.2 c.close-closed.ensures.waited c.close-closed.ensures.steps in
-    let end = c.ask-all.ensures (lines_in first) (space_of first) lots start (closed r ∷ so.0) false (waiting_in last) (steps_of last) shut in
-    subst (λ (ls : List Line). Carried g.S.Sink.edge g.S.Sink.parts ls lots c.args.calls.now r c.args.after.now (g.S.Sink.parts c.ask-all.new.sink)) c.open-build.ensures.lines
+    let end = c.ask_all.ensures (lines_in first) (space_of first) lots start (closed r ∷ so.0) false (waiting_in last) (steps_of last) shut in
+    subst (λ (ls : List Line). Carried g.S.Sink.edge g.S.Sink.parts ls lots c.args.calls.now r c.args.after.now (g.S.Sink.parts c.ask_all.new.sink)) c.open-build.ensures.lines
     (record {
       before = so.0;
       events = end.0;

@@ -1,6 +1,5 @@
 use Rattle.std.proofs.Common.{◌≡◌, min, length, take, sym, ap, ◌∙◌, arith, rules}
 use Rattle.geometry.specs.declared.scope.Scope.{Scope}
-use Rattle.geometry.specs.Sums.{sum_of}
 use Rattle.geometry.specs.Boxes.{volume_of}
 use Rattle.stack.specs.Held.{held}
 use Rattle.stack.proofs.Stacks.{held_length, held_min}
@@ -11,7 +10,7 @@ use Rattle.build.proofs.closing.volume_over.Goals as goal
 pub loop-i-preserved : goal.loop-i-preserved
 loop-i-preserved c =
     let more = sum_more (λ (s : Scope). volume_of s.cuboid) c.args.slots.now c.loop-i.i c.index-slots-i.result (omega (arith, c.min-count.ensures)) in
-    omega (arith, c.saturating-add-volume.ensures, c.loop-i.invariant, more, c.volume.ensures)
+    omega (arith, c.saturating_add-volume.ensures, c.loop-i.invariant, more, c.volume.ensures)
 
 pub returns : goal.returns
 returns c =

@@ -1,9 +1,9 @@
-use Rattle.std.proofs.Common.{◌≡◌, ℕ, List, [], ◌∷◌, length, sym, ap, subst, arith, length-take}
+use Rattle.std.proofs.Common.{ℕ, List, [], ◌∷◌, length, sym, subst, arith, length-take}
 use Rattle.geometry.specs.declared.scope.Scope.{Scope}
 use Rattle.book.specs.declared.line.Line.{Line}
 use Rattle.book.proofs.Checkings.{lines_checked}
 use Rattle.steps.specs.Acting.{Ran}
-use Rattle.build.specs.Builds.{waiting_in, space_of, lines_in, steps_of, lots_of, joined_lines, passed}
+use Rattle.build.specs.Builds.{waiting_in, space_of, lines_in, steps_of, lots_of, passed}
 use Rattle.build.specs.History.{ran, closed, run, close}
 use Rattle.build.specs.Lawful.{Lawful}
 use Rattle.build.proofs.Histories.{lawful}

@@ -6,7 +6,7 @@ use Rattle.grammar.proofs.passes.find_bad_number.Goals as goal
 
 pub returns : goal.returns
 returns c = record {
-  value = c.first-at.ensures;
-  first = wrong_first bad_number (tokens_of c.args.line.bytes.now) (form c.args.file ∷ []) c.first-at.result c.first-at.ensures;
-  tells = tells inside (λ n w. true) c.args.file (tokens_of c.args.line.bytes.now) c.first-at.result c.first-at.ensures;
+  value = c.first_at.ensures;
+  first = wrong_first bad_number (tokens_of c.args.line.bytes.now) (form c.args.file ∷ []) c.first_at.result c.first_at.ensures;
+  tells = tells inside (λ n w. true) c.args.file (tokens_of c.args.line.bytes.now) c.first_at.result c.first_at.ensures;
 }

@@ -1,7 +1,7 @@
-use Rattle.std.proofs.Common.{◌≡◌, [], ◌∷◌, length}
-use Rattle.text.specs.Tokens.{tokens_of, tokens_left}
+use Rattle.std.proofs.Common.{◌≡◌, length}
+use Rattle.text.specs.Tokens.{tokens_left}
 use Rattle.grammar.specs.States.{expects}
-use Rattle.grammar.specs.Wants.{first_at, form}
+use Rattle.grammar.specs.Wants.{first_at}
 use Rattle.grammar.proofs.passes.first_at.Given as goal
 
 abbrev pub invariant-loop-t : goal.invariant-loop-t

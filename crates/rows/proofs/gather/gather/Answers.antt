@@ -1,4 +1,4 @@
-use Rattle.std.proofs.Common.{◌≡◌, ◌+◌, [], ◌∷◌, ◌++◌, length, take, drop, ap, ◌∙◌, arith, length-set}
+use Rattle.std.proofs.Common.{◌≡◌, ◌+◌, [], ◌∷◌, length, take, drop, ap, ◌∙◌, arith, length-set}
 use Rattle.std.proofs.lemmas.List.{at_drop_all, take_more_set, append_assoc, append-nil}
 use Rattle.rows.specs.Rows.{sizes, floats}
 use Rattle.rows.proofs.Looping.{size_read}

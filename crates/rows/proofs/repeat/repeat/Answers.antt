@@ -8,9 +8,9 @@ use Rattle.rows.proofs.repeat.repeat.Goals as goal
 pub returns : goal.returns
 returns c =
     let n = tiles c.args.extent.0 c.args.tile.length.0 in
-    let few = ap (ltb most_tiles) (sym c.tile-count-n.ensures.0) ∙ sym c.if-too-many.ensures in
-    let row = c.tile-row.ensures ∙ ap (λ m. split_row c.args.extent.0 (replicate m tile_size)) c.tile-count-n.ensures.0 in
+    let few = ap (ltb most_tiles) (sym c.tile_count-n.ensures.0) ∙ sym c.if-too_many.ensures in
+    let row = c.tile_row.ensures ∙ ap (λ m. split_row c.args.extent.0 (replicate m tile_size)) c.tile_count-n.ensures.0 in
     record {
       row = row ∙ sym (cond-false _ _ _ few);
-      laws = told_lawful c.args.extent.0 (replicate n tile_size) c.tile-row.result (tiles_sound n) row;
+      laws = told_lawful c.args.extent.0 (replicate n tile_size) c.tile_row.result (tiles_sound n) row;
     }

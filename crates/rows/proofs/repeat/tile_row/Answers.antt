@@ -1,4 +1,4 @@
-use Rattle.std.proofs.Common.{◌≡◌, ℕ, ◌+◌, ◌-◌, ◌<◌, List, [], ◌∷◌, ◌++◌, length, take, replicate, Some, None, Ok, Err, sym, ap, ◌∙◌, arith, length-set}
+use Rattle.std.proofs.Common.{◌≡◌, ℕ, ◌+◌, ◌-◌, ◌<◌, [], ◌∷◌, length, take, replicate, Some, None, Ok, Err, sym, ap, ◌∙◌, arith, length-set}
 use Rattle.std.proofs.lemmas.List.{append-nil}
 use Rattle.std.proofs.lemmas.Bool.{cond-true, cond-false, lt-ltb, le-ltb}
 use Rattle.geometry.specs.Limits.{least}
@@ -18,11 +18,11 @@ loop-i-preserved c =
     ap (laid f c.loop-i.i) read in
     let t : thin f c.loop-i.i c.loop-i.i (replicate (c.args.n - c.loop-i.i) tile_size) ≡ thin f (c.loop-i.i + 1) (c.loop-i.i + 1) next =
     ap (thin f c.loop-i.i c.loop-i.i) read
-    ∙ cond-false _ _ _ (le-ltb (f c.loop-i.i) least (omega (arith, c.tile-length-length.ensures, c.if-length-lt-LEAST.false))) in
-    let m = row_more c.loop-i.segments c.loop-i.i (record { length = c.tile-length-length.result }) (laid f (c.loop-i.i + 1) next) l in
+    ∙ cond-false _ _ _ (le-ltb (f c.loop-i.i) least (omega (arith, c.tile_length-length.ensures, c.if-length-lt-LEAST.false))) in
+    let m = row_more c.loop-i.segments c.loop-i.i (record { length = c.tile_length-length.result }) (laid f (c.loop-i.i + 1) next) l in
     let i0 = c.loop-i.invariant.0 in
     let i1 = c.loop-i.invariant.1 in
-    let h = c.tile-length-length.ensures in
+    let h = c.tile_length-length.ensures in
     (cc, cc, length-set _ _ _ ∙ c.loop-i.invariant.2)
 
 pub returns-then-length-lt-LEAST : goal.returns-then-length-lt-LEAST
@@ -31,7 +31,7 @@ returns-then-length-lt-LEAST c =
     let all = replicate c.args.n tile_size in
     let t : thin f c.loop-i.i c.loop-i.i (replicate (c.args.n - c.loop-i.i) tile_size) ≡ Some (c.loop-i.i + 1) =
     ap (thin f c.loop-i.i c.loop-i.i) (tile_next c.args.n c.loop-i.i c.loop-i-test.true)
-    ∙ cond-true _ _ _ (lt-ltb (f c.loop-i.i) least (omega (arith, c.tile-length-length.ensures, c.if-length-lt-LEAST.true))) in
+    ∙ cond-true _ _ _ (lt-ltb (f c.loop-i.i) least (omega (arith, c.tile_length-length.ensures, c.if-length-lt-LEAST.true))) in
     ap Err c.vanishes.ensures ∙ sym (ap (unless_thin (laid f 0 all)) (sym c.loop-i.invariant.1 ∙ t)) ∙ tiles_row c.args.extent.0 c.args.n c.requires.0
 
 pub returns : goal.returns

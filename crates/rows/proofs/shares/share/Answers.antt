@@ -3,8 +3,8 @@ use Rattle.std.proofs.lemmas.Nat.{div_below, mul-le}
 use Rattle.rows.proofs.shares.share.Goals as goal
 
 -- the rest times the weight is at most the rest times the sum, so the quotient is at most the rest
-pub overflow-cast-result : goal.overflow-cast-result
-overflow-cast-result c =
+pub overflow_cast-result : goal.overflow_cast-result
+overflow_cast-result c =
     let h : c.args.weight.0 ≤ c.args.sum.0 = search rules in
     let p : 0 < c.args.sum.0 = search rules in
     let r : c.args.rest.0 < 2 ^ 32 = search rules in

@@ -42,6 +42,6 @@ returns c =
           let w = total_part (whole c.args.rest.0 (weight_at c.args.weights.now) c.args.sum.0) (length c.args.weights.now) k h in
           let le : total (whole c.args.rest.0 (weight_at c.args.weights.now) c.args.sum.0) (length c.args.weights.now) ≤ c.args.rest.0 =
           rw c.requires.sums (wholes_le c.args.rest.0 (weight_at c.args.weights.now) (length c.args.weights.now) (omega (arith, c.requires.sums, c.requires.some))) in
-          omega (arith, c.loop-i.invariant.0 k (omega arith), c.saturating-sub-left.ensures, w, le, g);
-      left = omega (arith, g, c.saturating-sub-left.ensures);
+          omega (arith, c.loop-i.invariant.0 k (omega arith), c.saturating_sub-left.ensures, w, le, g);
+      left = omega (arith, g, c.saturating_sub-left.ensures);
     }

@@ -1,4 +1,4 @@
-use Rattle.std.proofs.Common.{◌≡◌, ◌+◌, ◌<◌, length, get_or, take, sym, ap, ◌∙◌, arith, rules}
+use Rattle.std.proofs.Common.{◌≡◌, ◌+◌, ◌<◌, length, get_or, take, ap, ◌∙◌, arith, rules}
 use Rattle.geometry.specs.Boxes.{shared_with}
 use Rattle.sinks.specs.Meaning.{shared_by}
 use Rattle.sinks.proofs.Blocks.{sum_of_more, shared_one, front_min}
@@ -11,8 +11,8 @@ loop-i-preserved c =
     let h : i < length xs = search rules in
     let d = c.index-slots-i.result in
     let more = sum_of_more (λ b. shared_with 1 c.args.cell b.cuboid) xs i d h in
-    let e = c.share-of-sum.ensures in
-    let sum : c.loop-i.sum + c.share-of-sum.result ≡ shared_by 1 c.args.cell (take (i + 1) xs) = cc in
+    let e = c.share_of-sum.ensures in
+    let sum : c.loop-i.sum + c.share_of-sum.result ≡ shared_by 1 c.args.cell (take (i + 1) xs) = cc in
     (sum, omega (arith, c.loop-i.invariant.1, e, shared_one c.args.cell (get_or xs i d).cuboid))
 
 pub returns : goal.returns

@@ -20,23 +20,23 @@ returns-in-Use g c =
 pub returns-in-Repeat : goal.returns-in-Repeat
 returns-in-Repeat g c =
     let first = entries c.args.stack.now in
-    let last = entries c.tile-out.new.stack in
+    let last = entries c.tile_out.new.stack in
     let cap = capacity c.args.stack.now in
     let x = c.args.sink.now in
     record {
-      acts = subst (λ (b : Body). Acts g.S.Sink.edge g.S.Sink.parts g.S.Sink.took g.S.Sink.kept b c.args.scope first last cap x x c.tile-out.result) (sym c.in-Repeat.is)
-          (acts_tile g.S.Sink.edge g.S.Sink.parts g.S.Sink.took g.S.Sink.kept c.in-Repeat.axis c.in-Repeat.tile c.in-Repeat.rule c.args.scope first last cap x c.tile-out.result c.tile-out.ensures.divides);
-      slice = c.tile-out.ensures.slice;
+      acts = subst (λ (b : Body). Acts g.S.Sink.edge g.S.Sink.parts g.S.Sink.took g.S.Sink.kept b c.args.scope first last cap x x c.tile_out.result) (sym c.in-Repeat.is)
+          (acts_tile g.S.Sink.edge g.S.Sink.parts g.S.Sink.took g.S.Sink.kept c.in-Repeat.axis c.in-Repeat.tile c.in-Repeat.rule c.args.scope first last cap x c.tile_out.result c.tile_out.ensures.divides);
+      slice = c.tile_out.ensures.slice;
     }
 
 pub returns-in-Split : goal.returns-in-Split
 returns-in-Split g c =
     let first = entries c.args.stack.now in
-    let last = entries c.split-up.new.stack in
+    let last = entries c.split_up.new.stack in
     let cap = capacity c.args.stack.now in
     let x = c.args.sink.now in
     record {
-      acts = subst (λ (b : Body). Acts g.S.Sink.edge g.S.Sink.parts g.S.Sink.took g.S.Sink.kept b c.args.scope first last cap x x c.split-up.result) (sym c.in-Split.is)
-          (acts_split g.S.Sink.edge g.S.Sink.parts g.S.Sink.took g.S.Sink.kept c.in-Split.axis c.in-Split.parts c.in-Split.rules c.args.scope first last cap x c.split-up.result c.split-up.ensures.divides);
-      slice = c.split-up.ensures.slice;
+      acts = subst (λ (b : Body). Acts g.S.Sink.edge g.S.Sink.parts g.S.Sink.took g.S.Sink.kept b c.args.scope first last cap x x c.split_up.result) (sym c.in-Split.is)
+          (acts_split g.S.Sink.edge g.S.Sink.parts g.S.Sink.took g.S.Sink.kept c.in-Split.axis c.in-Split.parts c.in-Split.rules c.args.scope first last cap x c.split_up.result c.split_up.ensures.divides);
+      slice = c.split_up.ensures.slice;
     }

@@ -50,7 +50,7 @@ returns-in-Err g c =
       steps = (
         acts.0 ∙ kept.entries_are,
         acts.1,
-        halts_as (lines_of table) c.stop-at.result c.in-Err.reason line c.in-Some.scope c.stop-at.ensures.reason c.stop-at.ensures.line c.stop-at.ensures.scope
+        halts_as (lines_of table) c.stop_at.result c.in-Err.reason line c.in-Some.scope c.stop_at.ensures.reason c.stop_at.ensures.line c.stop_at.ensures.scope
             (capacity c.args.stack.now) w p (drop 1 w) c.choose-i.result.0 top c.choose-i.ensures because,
       );
       slice = same_slice c.args.stack.now c.top.new.self c.act.new.stack (kept.size, kept.lender) c.act.ensures.slice;

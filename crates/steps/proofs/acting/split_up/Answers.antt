@@ -13,20 +13,20 @@ cut-requires c =
     let e : c.on.result.size.0 ≡ length_on c.args.axis c.args.scope = ap (λ s. s.size.0) c.on.ensures in
     record {
       top = c.requires.top;
-      row = split_filling (length_on c.args.axis c.args.scope) c.args.parts.now c.args.rules.now c.split_row_lem.result
+      row = split_filling (length_on c.args.axis c.args.scope) c.args.parts.now c.args.rules.now c.split-row.result
           (span_on c.args.axis c.args.scope.cuboid).some c.told-rules c.requires.known
-          (subst (λ (L : ℕ). IfOk c.split_row_lem.result (λ r. Lawful L (sizes (parts_of c.args.parts.now)) (told r))) e c.split_row_lem.ensures.laws);
+          (subst (λ (L : ℕ). IfOk c.split-row.result (λ r. Lawful L (sizes (parts_of c.args.parts.now)) (told r))) e c.split-row.ensures.laws);
     }
 
 pub returns : goal.returns
 returns c =
     let e : c.on.result.size.0 ≡ length_on c.args.axis c.args.scope = ap (λ s. s.size.0) c.on.ensures in
     record {
-      divides = divided c.args.scope c.args.axis c.split_row_lem.result c.args.rules.now
+      divides = divided c.args.scope c.args.axis c.split-row.result c.args.rules.now
           (split_row (length_on c.args.axis c.args.scope) (sizes (parts_of c.args.parts.now))) (λ _. part_rules c.args.parts.now c.args.rules.now)
           (entries c.args.stack.now) (entries c.cut.new.stack) (capacity c.args.stack.now)
-          (c.split_row_lem.ensures.row ∙ ap (λ L. split_row L (sizes (parts_of c.args.parts.now))) e)
-          (split_rules c.on.result.size.0 c.args.parts.now c.args.rules.now c.split_row_lem.result c.split_row_lem.ensures.laws)
+          (c.split-row.ensures.row ∙ ap (λ L. split_row L (sizes (parts_of c.args.parts.now))) e)
+          (split_rules c.on.result.size.0 c.args.parts.now c.args.rules.now c.split-row.result c.split-row.ensures.laws)
           c.cut.result c.cut.ensures.cuts;
       slice = c.cut.ensures.slice;
     }

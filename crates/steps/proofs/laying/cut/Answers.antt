@@ -11,7 +11,7 @@ use Rattle.steps.proofs.laying.cut.Goals as goal
 pub lay-requires : goal.lay-requires
 lay-requires c = record {
   top = c.requires.top;
-  row = subst (λ (gs : List Segment). Filling (length_on c.args.axis c.args.scope) (lengths_of gs) (take (length gs) c.args.rules.now)) (sym c.as-slice.ensures.0)
+  row = subst (λ (gs : List Segment). Filling (length_on c.args.axis c.args.scope) (lengths_of gs) (take (length gs) c.args.rules.now)) (sym c.as_slice.ensures.0)
       (subst (λ (r : Result Row RowRefusal). IfOk r (λ row. Filling (length_on c.args.axis c.args.scope) (told row) (take (length (segments_of row)) c.args.rules.now))) c.in-Ok.is c.requires.row);
 }
 
@@ -21,7 +21,7 @@ returns-then-lay c = record {
     c.in-Ok.row,
     c.in-Ok.is,
     subst (λ (gs : List Segment). Placed c.args.scope c.args.axis (lengths_of gs) (take (length gs) c.args.rules.now) (entries c.args.stack.now) (entries c.lay.new.stack))
-        c.as-slice.ensures.0 c.if-lay.ensures.lays,
+        c.as_slice.ensures.0 c.if-lay.ensures.lays,
   );
   slice = c.lay.ensures.slice;
 }
@@ -38,7 +38,7 @@ returns-else-lay c =
           (
             told c.in-Ok.row,
             ap told_of c.in-Ok.is,
-            subst (λ (gs : List Segment). capacity c.args.stack.now < length (entries c.args.stack.now) + (length (lengths_of gs) - 1)) c.as-slice.ensures.0 lays.1,
+            subst (λ (gs : List Segment). capacity c.args.stack.now < length (entries c.args.stack.now) + (length (lengths_of gs) - 1)) c.as_slice.ensures.0 lays.1,
           ),
         ),
       );

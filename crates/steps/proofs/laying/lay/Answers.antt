@@ -1,4 +1,4 @@
-use Rattle.std.proofs.Common.{◌≡◌, ℕ, ◌+◌, ◌-◌, ◌<◌, ◌≤◌, List, ◌++◌, length, get_or, take, drop, sym, refl, ap, ◌∙◌, subst, arith, length-take}
+use Rattle.std.proofs.Common.{◌≡◌, ℕ, ◌-◌, ◌<◌, ◌≤◌, List, ◌++◌, length, get_or, take, drop, sym, refl, ap, ◌∙◌, subst, arith, length-take}
 use Rattle.std.proofs.lemmas.List.{get_or-take}
 use Rattle.geometry.specs.declared.scope.Scope.{Scope}
 use Rattle.geometry.specs.Limits.{most_lines}
@@ -15,11 +15,11 @@ loop-i-init c =
     (omega arith, (refl, refl), lay_none _ _ _ _ _ _ _ n (f.rules ∙ n) (ap (λ s. s.size.0) c.on-end.ensures ∙ sym f.sums))
 
 -- the next length, as the row tells it
-next : (c : goal.After-struct-known·1) → get_or (lengths_of c.args.segments.now) (c.loop-i.i - 1) 0 ≤ c.loop-i.end
+next : (c : goal.After-struct_known-1) → get_or (lengths_of c.args.segments.now) (c.loop-i.i - 1) 0 ≤ c.loop-i.end
 next c = lay_under _ _ _ _ _ (c.loop-i.i - 1) c.loop-i.i c.loop-i.end _ (omega arith) (omega (arith, lengths_count c.args.segments.now, c.loop-i.invariant.0, c.loop-i-test.true)) c.loop-i.invariant.2
 
-pub overflow-sub-end : goal.overflow-sub-end
-overflow-sub-end c = omega (arith, next c, length_at c.args.segments.now (c.loop-i.i - 1) (omega (arith, c.loop-i.invariant.0, c.loop-i-test.true)))
+pub overflow_sub-end : goal.overflow_sub-end
+overflow_sub-end c = omega (arith, next c, length_at c.args.segments.now (c.loop-i.i - 1) (omega (arith, c.loop-i.invariant.0, c.loop-i-test.true)))
 
 pub piece-requires : goal.piece-requires
 piece-requires c =
@@ -77,8 +77,8 @@ loop-i-preserved c =
       subst (λ (w : List Scope). Laying c.args.scope.cuboid c.args.axis (lengths_of gs) (take (length gs) c.args.rules.now) (entries c.pop.new.self) k low w) (sym p) more,
     )
 
-pub overflow-sub-n : goal.overflow-sub-n
-overflow-sub-n c = omega (arith, c.requires.row.some, lengths_count c.args.segments.now)
+pub overflow_sub-n : goal.overflow_sub-n
+overflow_sub-n c = omega (arith, c.requires.row.some, lengths_count c.args.segments.now)
 
 pub bounds-rules-i : goal.bounds-rules-i
 bounds-rules-i c =

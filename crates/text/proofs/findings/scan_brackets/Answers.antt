@@ -7,14 +7,14 @@ use Rattle.text.proofs.findings.scan_brackets.Goals as goal
 
 pub loop-i-preserved : goal.loop-i-preserved
 loop-i-preserved c = (
-  c.bracket-step.ensures.size,
-  sym (c.if-not-bracket-step.ensures.goes (drop (c.loop-i.i + 1) c.args.line.now))
+  c.bracket_step.ensures.size,
+  sym (c.if-not-bracket_step.ensures.goes (drop (c.loop-i.i + 1) c.args.line.now))
       ∙ (sym (at_drop_more (scanned (c.loop-i.i + 1) (entries c.loop-i.opened)) c.args.line.now c.loop-i.i 0 (omega arith)) ∙ c.loop-i.invariant.1),
 )
 
-pub returns-then-not-bracket-step : goal.returns-then-not-bracket-step
-returns-then-not-bracket-step c =
-    sym (c.if-not-bracket-step.ensures.goes (drop (c.loop-i.i + 1) c.args.line.now))
+pub returns-then-not-bracket_step : goal.returns-then-not-bracket_step
+returns-then-not-bracket_step c =
+    sym (c.if-not-bracket_step.ensures.goes (drop (c.loop-i.i + 1) c.args.line.now))
     ∙ (sym (at_drop_more (scanned (c.loop-i.i + 1) (entries c.loop-i.opened)) c.args.line.now c.loop-i.i 0 (omega arith))
     ∙ (c.loop-i.invariant.1 ∙ scan_is c.args.line.now))
 

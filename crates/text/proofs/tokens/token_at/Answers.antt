@@ -9,9 +9,9 @@ returns-in-Close c = token_close c.args.bytes.now c.args.at c.requires.0 c.in-Cl
 
 pub returns-in-Digit : goal.returns-in-Digit
 returns-in-Digit c =
-    token_number c.args.bytes.now c.args.at _ c.run-end-end.ensures c.requires.0 c.in-Digit.ensures
+    token_number c.args.bytes.now c.args.at _ c.run_end-end.ensures c.requires.0 c.in-Digit.ensures
 
-pub returns-in-default : goal.returns-in-default
-returns-in-default c =
-    token_word c.args.bytes.now c.args.at _ c.kind-of.result c.run-end-end-in-default.ensures c.requires.0 c.requires.1
-    c.kind-of.ensures c.in-default.not-Open c.in-default.not-Close c.in-default.not-Digit
+pub returns-in_default : goal.returns-in_default
+returns-in_default c =
+    token_word c.args.bytes.now c.args.at _ c.kind_of.result c.run_end-end-in_default.ensures c.requires.0 c.requires.1
+    c.kind_of.ensures c.in_default.not-Open c.in_default.not-Close c.in_default.not-Digit

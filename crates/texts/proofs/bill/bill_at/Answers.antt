@@ -5,19 +5,19 @@ use Rattle.texts.proofs.Writes.{wrote_then, wrote_is}
 use Rattle.texts.proofs.Sheets.{length_bill}
 use Rattle.texts.proofs.bill.bill_at.Goals as goal
 
-pub lines-at-to-requires : goal.lines-at-to-requires
-lines-at-to-requires c = omega (arith, length_bill (count_of c.args.tallies.now) (volume_held c.args.tallies.now), c.requires)
+pub lines_at-to-requires : goal.lines_at-to-requires
+lines_at-to-requires c = omega (arith, length_bill (count_of c.args.tallies.now) (volume_held c.args.tallies.now), c.requires)
 
-pub line-at-requires : goal.line-at-requires
-line-at-requires c =
+pub line_at-requires : goal.line_at-requires
+line_at-requires c =
     omega (
       arith,
       length_bill (count_of c.args.tallies.now) (volume_held c.args.tallies.now),
-      ap length c.sum-line.ensures,
-      c.lines-at-to.ensures.value,
+      ap length c.sum_line.ensures,
+      c.lines_at-to.ensures.value,
       c.requires,
     )
 
 pub returns : goal.returns
 unfolding bill_text
-returns c = wrote_then (omega arith) c.lines-at-to.ensures (wrote_is c.sum-line.ensures c.line-at.ensures)
+returns c = wrote_then (omega arith) c.lines_at-to.ensures (wrote_is c.sum_line.ensures c.line_at.ensures)

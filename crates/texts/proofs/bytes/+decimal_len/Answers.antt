@@ -2,8 +2,8 @@ use Rattle.std.proofs.Common.{arith, rules}
 use Rattle.texts.proofs.Writes.{length_step, length_digit, length_few}
 use Rattle.texts.proofs.bytes.+decimal_len.Goals as goal
 
-pub overflow-add-result : goal.overflow-add-result
-overflow-add-result t c = search (rules, length_few)
+pub overflow_add-result : goal.overflow_add-result
+overflow_add-result t c = search (rules, length_few)
 
 pub returns-then-n-lt10 : goal.returns-then-n-lt10
 returns-then-n-lt10 t c = record { value = search (rules, length_digit); bound = search rules }

@@ -5,14 +5,14 @@ use Rattle.texts.proofs.bytes.+put_decimal.Goals as goal
 pub bounds-out-0 : goal.bounds-out-0
 bounds-out-0 t c = search (rules, length_digit)
 
-pub put-decimal-k-requires : goal.put-decimal-k-requires
-put-decimal-k-requires t c = search (rules, length_step)
+pub put_decimal-k-requires : goal.put_decimal-k-requires
+put_decimal-k-requires t c = search (rules, length_step)
 
 pub bounds-out-k : goal.bounds-out-k
 bounds-out-k t c = search (rules, length_step)
 
-pub overflow-add-result : goal.overflow-add-result
-overflow-add-result t c = search (rules, length_few)
+pub overflow_add-result : goal.overflow_add-result
+overflow_add-result t c = search (rules, length_few)
 
 pub returns-then-n-lt10 : goal.returns-then-n-lt10
 returns-then-n-lt10 t c =
@@ -22,7 +22,7 @@ returns-then-n-lt10 t c =
 pub returns-else-n-lt10 : goal.returns-else-n-lt10
 returns-else-n-lt10 t c = record {
   after =
-      next_digit c.args.out.now c.put-decimal-k.new.out c.args.n c.put-decimal-k.result
-      c.if-n-lt10.false (omega arith) c.requires c.put-decimal-k.ensures.after c.put-decimal-k.ensures.value;
+      next_digit c.args.out.now c.put_decimal-k.new.out c.args.n c.put_decimal-k.result
+      c.if-n-lt10.false (omega arith) c.requires c.put_decimal-k.ensures.after c.put_decimal-k.ensures.value;
   value = search (rules, length_step);
 }

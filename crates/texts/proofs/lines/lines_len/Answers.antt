@@ -8,4 +8,4 @@ loop-i-init g c = (ap length (sym (up_none (g.L.Lines.line c.args.lines.now))), 
 pub loop-i-preserved : goal.loop-i-preserved
 loop-i-preserved g c =
     let more = length_up_more (g.L.Lines.line c.args.lines.now) c.loop-i.i in
-    (omega (arith, c.loop-i.invariant.0, c.told-len-sum.ensures.value, ap length c.line.ensures), omega (arith, c.loop-i.invariant.1, c.told-len-sum.ensures.bound))
+    (omega (arith, c.loop-i.invariant.0, c.told_len-sum.ensures.value, ap length c.line.ensures), omega (arith, c.loop-i.invariant.1, c.told_len-sum.ensures.bound))

@@ -10,7 +10,7 @@ loop-n-preserved c =
     let i = c.loop-n.n-index in
     let h : i < length ns = search rules in
     let more = length_spaced_more ns i h in
-    (omega (arith, more, c.decimal-len.ensures.value, c.loop-n.invariant.0), omega (arith, c.decimal-len.ensures.bound, c.loop-n.invariant.1))
+    (omega (arith, more, c.decimal_len.ensures.value, c.loop-n.invariant.0), omega (arith, c.decimal_len.ensures.bound, c.loop-n.invariant.1))
 
 pub returns : goal.returns
 returns c = record {

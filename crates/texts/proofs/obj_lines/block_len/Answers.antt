@@ -10,8 +10,8 @@ returns c =
     omega (
       arith,
       length_block c.args.drawn c.args.block c.if-block-eq0.false,
-      ap length c.group-line.ensures,
-      c.line-len.ensures.value,
-      c.lines-len.ensures.value,
-      c.lines-len-2.ensures.value,
+      ap length c.group_line.ensures,
+      c.line_len.ensures.value,
+      c.lines_len.ensures.value,
+      c.lines_len-2.ensures.value,
     )

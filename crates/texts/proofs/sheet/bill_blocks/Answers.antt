@@ -12,19 +12,19 @@ use Rattle.texts.proofs.sheet.bill_blocks.Goals as goal
 pub returns-in-None : goal.returns-in-None
 returns-in-None c =
     let s = c.new-bill.result in
-    let t = c.offer-all.new.sink in
+    let t = c.offer_all.new.sink in
     let bs = c.args.blocks.now in
-    let chain = offers_whole site bill_parts (λ _ _ _. Unit {0}) (λ u v. v ≡ u) s t bs c.offer-all.result c.offer-all.ensures c.in-None.is in
+    let chain = offers_whole site bill_parts (λ _ _ _. Unit {0}) (λ u v. v ≡ u) s t bs c.offer_all.result c.offer_all.ensures c.in-None.is in
     let told = blocks_told site bill_parts s t bs (chain_weaker (Taking site bill_parts (λ _ _ _. Unit {0})) (Taken site bill_parts) (λ u b v r. r.0) s t bs chain) in
     let empty = c.new-bill.ensures in
     let same = bill_same _ _ _ _ (λ m. omega (arith, told.count m, empty.count m)) (λ m. omega (arith, told.volume m, empty.volume m)) in
     record {
       first = s;
       last = t;
-      offered = c.offer-all.result;
+      offered = c.offer_all.result;
       begun = empty;
-      offers = c.offer-all.ensures;
-      answer = not_refused c.offer-all.result.refusal c.in-None.is
+      offers = c.offer_all.ensures;
+      answer = not_refused c.offer_all.result.refusal c.in-None.is
           (bill_text (count_of t.tallies) (volume_held t.tallies)) (bill_text (count_in bs) (volume_in bs))
           c.args.out.now c.text.new.out c.text.result same c.text.ensures;
     }
@@ -34,9 +34,9 @@ returns-in-Some c =
     let bs = c.args.blocks.now in
     record {
       first = c.new-bill.result;
-      last = c.offer-all.new.sink;
-      offered = c.offer-all.result;
+      last = c.offer_all.new.sink;
+      offered = c.offer_all.result;
       begun = c.new-bill.ensures;
-      offers = c.offer-all.ensures;
-      answer = was_refused c.offer-all.result.refusal c.in-Some.refusal c.in-Some.is (bill_text (count_in bs) (volume_in bs)) c.args.out.now (Err c.in-Some.refusal) refl;
+      offers = c.offer_all.ensures;
+      answer = was_refused c.offer_all.result.refusal c.in-Some.refusal c.in-Some.is (bill_text (count_in bs) (volume_in bs)) c.args.out.now (Err c.in-Some.refusal) refl;
     }

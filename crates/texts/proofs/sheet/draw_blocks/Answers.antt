@@ -9,7 +9,7 @@ use Rattle.texts.proofs.sheet.draw_blocks.Goals as goal
 pub returns : goal.returns
 returns c =
     let s = c.new-drawing.result in
-    let d = c.drain-blocks.ensures in
+    let d = c.drain_blocks.ensures in
     let bs = c.args.blocks.now in
     let begun = c.new-drawing.ensures in
     record {
@@ -18,7 +18,7 @@ returns c =
       offered = d.offered;
       begun = (begun.empty, begun.none, begun.out.0);
       offers = d.offers;
-      answer = same_text d.offered.refusal (obj_text d.last) (blocks_text 0 bs) c.args.out.now c.drain-blocks.new.out c.drain-blocks.result
+      answer = same_text d.offered.refusal (obj_text d.last) (blocks_text 0 bs) c.args.out.now c.drain_blocks.new.out c.drain_blocks.result
           (λ none. text_of s d.last bs begun.none begun.empty
           (chain_weaker (Taking site obj_parts Drawn) Drawn (λ u b v r. r.1) s d.last bs (offers_whole site obj_parts Drawn (λ u v. v ≡ u) s d.last bs d.offered d.offers none)))
           d.answer;

@@ -1,4 +1,4 @@
-use Rattle.std.proofs.Common.{◌≡◌, ◌+◌, ◌≤◌, List, [], ◌∷◌, ◌++◌, length, drop, sym, ap, ◌∙◌, subst, arith}
+use Rattle.std.proofs.Common.{◌≡◌, ◌+◌, List, [], ◌∷◌, ◌++◌, drop, sym, ap, ◌∙◌, subst, arith}
 use Rattle.std.proofs.lemmas.List.{drop_more, at_drop_all, append_assoc, append-nil, map_push}
 use Rattle.rows.specs.declared.size.Size.{Size}
 use Rattle.rows.specs.declared.size.Size.TheVariants.{Fix}
@@ -25,10 +25,10 @@ loop-size-preserved c =
       λ h. (subst (λ (ss : List Size). InRange ss) read (c.loop-size.invariant.2 h)).1,
     )
 
-pub returns-in-default : goal.returns-in-default
-returns-in-default c = λ range few.
+pub returns-in_default : goal.returns-in_default
+returns-in_default c = λ range few.
     let here = (subst (λ (ss : List Size). InRange ss) (drop_more c.args.wanted.now c.loop-size.size-index (Fix (record { 0 = 0 })) c.loop-size-test.true) (c.loop-size.invariant.2 range)).0 in
-    c.in-default.ensures here.0 here.1
+    c.in_default.ensures here.0 here.1
 
 pub returns : goal.returns
 returns c =

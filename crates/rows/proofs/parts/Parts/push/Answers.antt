@@ -7,4 +7,4 @@ use Rattle.rows.proofs.parts.Parts.push.Goals as goal
 pub returns : goal.returns
 returns c =
     let room : c.args.self.now.count < length c.args.self.now.items = search rules in
-    (leb-false most_parts c.args.self.now.count (sym c.if-is-full.ensures), take_more_set c.args.self.now.items c.args.self.now.count c.args.part room, refl)
+    (leb-false most_parts c.args.self.now.count (sym c.if-is_full.ensures), take_more_set c.args.self.now.items c.args.self.now.count c.args.part room, refl)

@@ -1,4 +1,4 @@
-use Rattle.std.proofs.Common.{◌≡◌, ◌+◌, ◌<◌, [], ◌∷◌, ◌++◌, length, take, drop, set, sym, refl, ap, ◌∙◌, arith, rules}
+use Rattle.std.proofs.Common.{◌≡◌, ◌+◌, ◌<◌, length, take, drop, set, sym, refl, ap, ◌∙◌, arith, rules}
 use Rattle.std.proofs.lemmas.List.{take_more_set, drop-set-lt}
 use Rattle.geometry.specs.Sums.{sum_of}
 use Rattle.geometry.specs.Boxes.{shared_with}
@@ -13,11 +13,11 @@ returns c =
     let b = c.args.block in
     let h : n < length xs = search rules in
     let e : c.put.new.slots ≡ set xs n b = search rules in
-    let told = c.in-ok-receive.ensures in
+    let told = c.in_ok-receive.ensures in
     let noted = told.after in
     record {
       takes = record {
-        judged = (told.judged.0, told.judged.1, sym c.has-room-room.ensures ∙ told.judged.2);
+        judged = (told.judged.0, told.judged.1, sym c.has_room-room.ensures ∙ told.judged.2);
         after = record {
           count = noted.count;
           volume = noted.volume;

@@ -1,4 +1,4 @@
-use Rattle.std.proofs.Common.{◌≡◌, ℕ, Bool, true, false, cond, ap, ◌∙◌, arith}
+use Rattle.std.proofs.Common.{◌≡◌, ℕ, Bool, true, false, cond, arith}
 use Rattle.sinks.specs.Meaning.{in_grid}
 use Rattle.sinks.specs.Rasters.{place_of}
 use Rattle.sinks.proofs.Places.{zeros}
@@ -8,8 +8,8 @@ zero_both : (b : Bool) (n : ℕ) → n ≡ 0 → cond b n 0 ≡ 0
 zero_both true n e = e
 zero_both false n e = omega arith
 
-pub invariant-of-result : goal.invariant-of-result
-invariant-of-result c = (λ n. omega (arith, zeros 4096 n), tt)
+pub invariant_of-result : goal.invariant_of-result
+invariant_of-result c = record { small = λ n. omega (arith, zeros 4096 n) }
 
 pub returns : goal.returns
 returns c = record {

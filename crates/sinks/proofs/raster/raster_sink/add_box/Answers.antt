@@ -1,4 +1,4 @@
-use Rattle.std.proofs.Common.{◌+◌, ◌*◌, arith}
+use Rattle.std.proofs.Common.{◌*◌, arith}
 use Rattle.sinks.proofs.Places.{before, beyond, share_z, shared_none, shared_skip}
 use Rattle.sinks.proofs.raster.raster_sink.add_box.Goals as goal
 

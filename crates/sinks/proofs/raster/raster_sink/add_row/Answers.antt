@@ -1,4 +1,4 @@
-use Rattle.std.proofs.Common.{◌+◌, ◌*◌, arith}
+use Rattle.std.proofs.Common.{◌+◌, arith}
 use Rattle.sinks.proofs.Places.{before, beyond, share_x, shared_none, shared_skip}
 use Rattle.sinks.proofs.raster.raster_sink.add_row.Goals as goal
 

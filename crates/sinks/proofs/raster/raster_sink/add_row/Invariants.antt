@@ -1,4 +1,4 @@
-use Rattle.std.proofs.Common.{◌+◌, ◌*◌}
+use Rattle.std.proofs.Common.{◌+◌}
 use Rattle.sinks.specs.Rasters.{SharedIn}
 use Rattle.sinks.proofs.raster.raster_sink.add_row.Given as goal
 

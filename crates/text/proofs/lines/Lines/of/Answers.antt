@@ -5,7 +5,7 @@ use Rattle.text.proofs.lines.Lines.of.Goals as goal
 
 pub returns : goal.returns
 returns c = record {
-  all = c.at-start.ensures.all;
-  first = c.at-start.ensures.first;
-  law = subst (Rejoins c.args.text.now) (sym c.at-start.ensures.all) (rejoins c.args.text.now);
+  all = c.at_start.ensures.all;
+  first = c.at_start.ensures.first;
+  law = subst (Rejoins c.args.text.now) (sym c.at_start.ensures.all) (rejoins c.args.text.now);
 }

@@ -7,9 +7,9 @@ pub returns : goal.returns
 returns c =
     let xs = c.args.text.now in
     let at = c.args.at in
-    let end = c.line-end-end.result in
+    let end = c.line_end-end.result in
     record {
-      same = c.line-end-end.ensures.same ∙ ap (λ ls. between at end xs ∷ ls) (line_after xs end _ c.next-start.ensures);
+      same = c.line_end-end.ensures.same ∙ ap (λ ls. between at end xs ∷ ls) (line_after xs end _ c.next_start.ensures);
       low = omega arith;
       high = omega arith;
     }

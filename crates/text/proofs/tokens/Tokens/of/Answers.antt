@@ -5,7 +5,7 @@ use Rattle.text.proofs.tokens.Tokens.of.Goals as goal
 
 pub returns : goal.returns
 returns c = record {
-  all = c.at-start.ensures.all;
-  place = c.at-start.ensures.place;
-  law = subst (Tokenized c.args.line.bytes.now) (sym c.at-start.ensures.all) (tokenized c.args.line.bytes.now);
+  all = c.at_start.ensures.all;
+  place = c.at_start.ensures.place;
+  law = subst (Tokenized c.args.line.bytes.now) (sym c.at_start.ensures.all) (tokenized c.args.line.bytes.now);
 }

@@ -3,7 +3,7 @@ use Rattle.texts.proofs.bill.BillSink.take.Goals as goal
 
 pub returns : goal.returns
 returns c =
-    let told = c.in-ok-receive.ensures in
+    let told = c.in_ok-receive.ensures in
     record {
       takes = record {
         judged = told.judged;

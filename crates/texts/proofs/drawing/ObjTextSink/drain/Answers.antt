@@ -26,8 +26,8 @@ returns-in-Ok c =
     let xs = s.out.now in
     let n = c.min-n.result in
     let e : take n xs ≡ take s.used xs = ap (λ k. take k xs) c.min-n.ensures ∙ front_min s.used xs in
-    let begun = c.begin-text.ensures in
-    let P : List ℕ → Type 0 = λ t. HandsOut t c.args.out.now c.hand-out.new.to (Ok c.in-Ok.written) in
+    let begun = c.begin_text.ensures in
+    let P : List ℕ → Type 0 = λ t. HandsOut t c.args.out.now c.hand_out.new.to (Ok c.in-Ok.written) in
     record {
       hands = subst P e c.in-Ok.ensures.hands;
       state = (
@@ -36,7 +36,7 @@ returns-in-Ok c =
           volume = λ m. ap (λ t. volume_held t m) begun.tallies;
           cell = λ d. ap (λ t. site_cell t d) begun.tallies;
         },
-        ap (λ k. take k c.begin-text.new.self.out.now) begun.none,
+        ap (λ k. take k c.begin_text.new.self.out.now) begun.none,
       );
       idle = λ none. absurd (c.if-n-eq0.false (omega (arith, ap length (e ∙ none), length-take-le n xs (omega (arith, c.min-n.ensures)))));
     }
@@ -46,6 +46,6 @@ returns-in-Err c =
     let s = c.args.self.now in
     let xs = s.out.now in
     let e : take c.min-n.result xs ≡ take s.used xs = ap (λ k. take k xs) c.min-n.ensures ∙ front_min s.used xs in
-    let P : List ℕ → Type 0 = λ t. HandsOut t c.args.out.now c.hand-out.new.to (Err c.in-Err.refusal) in
-    let same = ap {B = ObjText} (λ (ys : List ℕ). record { out = set_vals ys s.out; used = s.used; tallies = s.tallies }) c.hand-out.ensures.same in
+    let P : List ℕ → Type 0 = λ t. HandsOut t c.args.out.now c.hand_out.new.to (Err c.in-Err.refusal) in
+    let same = ap {B = ObjText} (λ (ys : List ℕ). record { out = set_vals ys s.out; used = s.used; tallies = s.tallies }) c.hand_out.ensures.same in
     record { hands = subst P e c.in-Err.ensures.hands; state = (ap obj_parts same, same); idle = λ _. (ap obj_parts same, same) }

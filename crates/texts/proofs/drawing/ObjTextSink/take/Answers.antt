@@ -1,4 +1,4 @@
-use Rattle.std.proofs.Common.{◌≡◌, ℕ, ◌-◌, ◌≤◌, Bool, leb, ◌++◌, length, take, sym, refl, ap, ◌∙◌, arith, rules}
+use Rattle.std.proofs.Common.{◌≡◌, ℕ, ◌-◌, ◌≤◌, leb, ◌++◌, length, take, sym, refl, ap, ◌∙◌, arith}
 use Rattle.sinks.specs.Tallied.{drawn_of}
 use Rattle.sinks.proofs.Materials.{drawn_more}
 use Rattle.sinks.proofs.Blocks.{front_min}
@@ -16,11 +16,11 @@ returns c =
     let xs = s.out.now in
     let b = c.args.block in
     let d = drawn_of s.tallies in
-    let told = c.in-ok-receive.ensures in
+    let told = c.in_ok-receive.ensures in
     let at = c.min-at.result in
     let low : at ≤ length xs = omega (arith, c.min-at.ensures) in
     let lines = ap (λ n. block_text n b) c.drawn-drawn.ensures.value in
-    let w = wrote_is lines c.block-at-self.ensures in
+    let w = wrote_is lines c.block_at-self.ensures in
     let front : take at xs ≡ take s.used xs = ap (λ n. take n xs) c.min-at.ensures ∙ front_min s.used xs in
     let room : c.fits-room.result ≡ leb (length (block_text d b)) (length xs - s.used) =
     c.fits-room.ensures ∙ same_test _ _ _ _ (ap length lines) (omega (arith, c.min-at.ensures)) in
