@@ -9,6 +9,7 @@ use crate::cuboid::Cuboid;
 use crate::limits::{LEAST, MOST_LINES, SITE};
 use crate::scope::Scope;
 use crate::span::Span;
+use crate::triple::Triple;
 use crate::units::Mm;
 
 impl Span {
@@ -47,13 +48,13 @@ impl Span {
 }
 
 impl Cuboid {
-    // The box at a corner with three sizes; None where it is none of the site.
-    pub fn new(px: Mm, py: Mm, pz: Mm, sx: Mm, sy: Mm, sz: Mm) -> Option<Cuboid>
-        ensures { MatchOption result (Fits px.0 sx.0 → Fits py.0 sy.0 → Fits pz.0 sz.0 → ⊥) (Boxed px.0 py.0 pz.0 sx.0 sy.0 sz.0) }
+    // The box at a corner with those sizes; None where it is none of the site.
+    pub fn new(corner: Triple, size: Triple) -> Option<Cuboid>
+        ensures { MatchOption result (Fits corner.x.0 size.x.0 → Fits corner.y.0 size.y.0 → Fits corner.z.0 size.z.0 → ⊥) (Boxed corner.x.0 corner.y.0 corner.z.0 size.x.0 size.y.0 size.z.0) }
     {
-        let x = Span::new(px, sx)?;
-        let y = Span::new(py, sy)?;
-        let z = Span::new(pz, sz)?;
+        let x = Span::new(corner.x, size.x)?;
+        let y = Span::new(corner.y, size.y)?;
+        let z = Span::new(corner.z, size.z)?;
         Some(Cuboid { x, y, z })
     }
 
@@ -72,21 +73,9 @@ impl Cuboid {
         ensures { result ≡ with_span axis span self }
     {
         match axis {
-            Axis::X => Cuboid {
-                x: span,
-                y: self.y,
-                z: self.z,
-            },
-            Axis::Y => Cuboid {
-                x: self.x,
-                y: span,
-                z: self.z,
-            },
-            Axis::Z => Cuboid {
-                x: self.x,
-                y: self.y,
-                z: span,
-            },
+            Axis::X => Cuboid { x: span, ..self },
+            Axis::Y => Cuboid { y: span, ..self },
+            Axis::Z => Cuboid { z: span, ..self },
         }
     }
 

@@ -1,4 +1,4 @@
-// Millimetres, weights, axes, boxes of the site, blocks and scopes.
+// Millimetres, weights, axes, triples, boxes of the site, blocks and scopes.
 #![tactic(auto)]
 
 pub mod axis;
@@ -10,4 +10,5 @@ pub mod laws;
 pub mod limits;
 pub mod scope;
 pub mod span;
+pub mod triple;
 pub mod units;
