@@ -1,5 +1,7 @@
-// A vector of at most N entries whose memory is reserved when it is made: only making one can fail for want of memory.
+// Lists of at most N entries that ask for no memory as they grow: in a vector whose memory is reserved when it is made, or in the value itself.
 #![tactic(auto)]
 
 pub mod bounded;
+pub mod full;
+pub mod inline;
 pub mod methods;
