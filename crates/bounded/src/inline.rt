@@ -1,5 +1,5 @@
 // A list of at most N entries in the value itself: the first `count` of `items`.
-ghost use Rattle.std.specs.Prelude.{◌≡◌, ◌≤◌, [], length, ⊤};
+ghost use Rattle.std.specs.Prelude.{◌≡◌, ◌≤◌, [], length, OnErr, ⊤};
 
 use crate::full::Full;
 use std::alloc::AllocError;
@@ -40,7 +40,8 @@ impl<T: Copy, const N: usize> InlineVec<T, N> {
 
     // One entry more at the end; refused, and nothing altered, where there are N.
     pub fn push(&mut self, x: T) -> Result<(), Full>
-        ensures { Pushed N (listed self.old) x (listed self.new) result }
+        ensures pushed { Pushed N (listed self.old) x (listed self.new) result }
+        ensures kept { OnErr result (self.new ≡ self.old) }
     {
         if self.count >= N {
             return Err(Full);
