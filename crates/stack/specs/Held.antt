@@ -1,5 +1,6 @@
 -- What a stack holds.
-use Rattle.std.specs.Prelude.{◌≡◌, ℕ, ◌+◌, ◌<◌, ◌≤◌, min, Bool, true, false, List, [], ◌∷◌, reverse, length, take, Some, None, Option, slice_index_or, slice_set}
+use Rattle.std.specs.Prelude.{◌≡◌, ℕ, ◌+◌, ◌<◌, ◌≤◌, min, List, [], ◌∷◌, reverse, length, take, Some, None, Option, Ok, Err, Result, slice_index_or, slice_set}
+use Rattle.bounded.specs.declared.full.Full.{Full}
 use Rattle.stack.specs.declared.Stack.{Stack}
 
 module _ {X : Type 0} where
@@ -21,9 +22,9 @@ module _ {X : Type 0} where
   top_of (x ∷ xs) = Some x
 
   -- ys is xs with x written at n, or xs where n lies past its end
-  abbrev pub Put : List X → ℕ → X → List X → Bool → Type 0
-  Put xs n x ys true = (n < length xs) × (ys ≡ slice_set xs n x)
-  Put xs n x ys false = (length xs ≤ n) × (ys ≡ xs)
+  abbrev pub Put : List X → ℕ → X → List X → Result (Unit {0}) Full → Type 0
+  Put xs n x ys (Ok u) = (n < length xs) × (ys ≡ slice_set xs n x)
+  Put xs n x ys (Err e) = (length xs ≤ n) × (ys ≡ xs)
 
   -- the last of the first n slots with its place, if there is one
   abbrev pub LastOf : List X → ℕ → Option (X × ℕ) → Type 0

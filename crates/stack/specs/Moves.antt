@@ -1,7 +1,7 @@
 -- What each call does to a stack.
 use Rattle.std.specs.Prelude.{◌≡◌, ◌<◌, List, ◌∷◌, length, drop, Ok, Err, Result, slice_set}
 use Rattle.stack.specs.Held.{entries, capacity}
-use Rattle.stack.specs.declared.Full.{Full}
+use Rattle.bounded.specs.declared.full.Full.{Full}
 use Rattle.stack.specs.declared.Stack.{Stack}
 
 module _ {X : Type 0} where

@@ -2,12 +2,11 @@
 #![tactic(auto)]
 
 ghost use Rattle.std.specs.Prelude.{◌≡◌, ℕ, ◌-◌, ◌<◌, min, [], length};
+ghost use Rattle.std.specs.List.{FoldsTo};
 ghost use Rattle.stack.specs.Held.{held, entries, capacity, top_of, Put, LastOf};
 ghost use Rattle.stack.specs.Moves.{Kept, Pushed, Popped};
 
-// Said by a push where every slot is in use.
-#[derive(Clone, Copy, PartialEq, Eq, Debug)]
-pub struct Full;
+pub use bounded::full::Full;
 
 // The first `mark` slots are in use and the last of them is the top; a mark past the end counts as the end.
 #[derive(Drop)]
@@ -32,16 +31,15 @@ fn unused<T>(slots: &mut [T], mark: usize) -> usize
     slots.len().saturating_sub(mark)
 }
 
-// Writes `x` at a place of the slice; false, and nothing is altered, where it has no such place.
-fn put<T: Copy>(slots: &mut [T], at: usize, x: T) -> bool
+// Writes `x` at a place of the slice; refused, and nothing is altered, where it has no such place.
+fn put<T: Copy>(slots: &mut [T], at: usize, x: T) -> Result<(), Full>
     ensures { Put slots.old at x slots.new result }
 {
-    if at < slots.len() {
-        slots[at] = x;
-        true
-    } else {
-        false
+    if at >= slots.len() {
+        return Err(Full);
     }
+    slots[at] = x;
+    Ok(())
 }
 
 // The last entry in use and its place; nothing is altered.
@@ -54,6 +52,20 @@ fn last_of<T: Copy>(slots: &mut [T], mark: usize) -> Option<(T, usize)>
         return None;
     }
     Some((slots[n - 1], n - 1))
+}
+
+// The entries in use joined to `init` one after another, the last first; nothing is altered.
+fn fold_of<T: Copy, A, F: Fn(A, T) -> A>(slots: &mut [T], mark: usize, init: A, f: F) -> A
+    requires { F.IsAlwaysCallable f }
+    ensures folded { FoldsTo (λ a x b. F.post f a x b) init (held slots.old mark) result }
+    ensures same { slots.new ≡ slots.old }
+{
+    let n = in_use(slots, mark);
+    let mut all = init;
+    for x in slots[..n].iter().rev() {
+        all = f(all, *x);
+    }
+    all
 }
 
 impl<'s, T: Copy> Stack<'s, T> {
@@ -82,8 +94,7 @@ impl<'s, T: Copy> Stack<'s, T> {
         ensures holds { held self.new.slots.now result ≡ entries self.old }
         ensures kept { Kept self.old self.new }
     {
-        let Stack { mark, .. } = self;
-        *mark
+        self.mark
     }
 
     // How many entries it holds.
@@ -110,10 +121,8 @@ impl<'s, T: Copy> Stack<'s, T> {
         ensures kept { Kept self.old self.new }
     {
         let mark = self.mark;
-        match last_of(self.slots, mark) {
-            Some((x, _)) => Some(x),
-            None => None,
-        }
+        let (x, _) = last_of(self.slots, mark)?;
+        Some(x)
     }
 
     // One entry more on top; refused, and nothing is altered, where every slot is in use.
@@ -121,12 +130,9 @@ impl<'s, T: Copy> Stack<'s, T> {
         ensures { Pushed self.old x self.new result }
     {
         let mark = self.mark;
-        if put(self.slots, mark, x) {
-            self.mark = mark + 1;
-            Ok(())
-        } else {
-            Err(Full)
-        }
+        put(self.slots, mark, x)?;
+        self.mark = mark + 1;
+        Ok(())
     }
 
     // The top entry, which leaves; its slot stays as it was.
@@ -135,12 +141,18 @@ impl<'s, T: Copy> Stack<'s, T> {
         ensures popped { Popped self.old self.new }
     {
         let mark = self.mark;
-        match last_of(self.slots, mark) {
-            Some((x, below)) => {
-                self.mark = below;
-                Some(x)
-            }
-            None => None,
-        }
+        let (x, below) = last_of(self.slots, mark)?;
+        self.mark = below;
+        Some(x)
+    }
+
+    // The entries joined to `init` one after another, the top first.
+    pub fn fold<A, F: Fn(A, T) -> A>(&mut self, init: A, f: F) -> A
+        requires { F.IsAlwaysCallable f }
+        ensures folded { FoldsTo (λ a x b. F.post f a x b) init (entries self.old) result }
+        ensures kept { Kept self.old self.new }
+    {
+        let mark = self.mark;
+        fold_of(self.slots, mark, init, f)
     }
 }
