@@ -1,10 +1,13 @@
 -- Sums over lists of blocks.
-use Rattle.std.proofs.Common.{◌≡◌, ℕ, ◌+◌, ◌<◌, ◌≤◌, min, List, [], ◌∷◌, ◌++◌, length, get_or, take, set, sym, ap, ◌∙◌, ⊎_elim, mul-le-mul, arith}
+use Rattle.std.proofs.Common.{◌≡◌, ℕ, ◌+◌, ◌<◌, ◌≤◌, min, List, [], ◌∷◌, ◌++◌, length, get_or, take, set, refl, sym, ap, ◌∙◌, ⊎_elim, mul-le-mul, arith}
 use native.Mathlib.Nat.{min-eq_left, min-eq_right}
 use Rattle.std.proofs.lemmas.List.{take_more_set, take_more, take_all}
+use Rattle.std.specs.List.{sum_by}
+use Rattle.std.proofs.lemmas.List.Sums.{sum_by-cons}
 use Rattle.std.proofs.lemmas.Bool.{cases_lt}
 use Rattle.geometry.specs.declared.span.Span.{Span}
 use Rattle.geometry.specs.declared.cuboid.Cuboid.{Cuboid}
+use Rattle.geometry.specs.declared.block.Block.{Block}
 use Rattle.geometry.specs.declared.cell.Cell.{Cell}
 use Rattle.geometry.specs.Sums.{sum_of}
 use Rattle.geometry.specs.Boxes.{overlap, shared_with}
@@ -32,3 +35,12 @@ overlap_one i s = omega arith
 -- a cell of edge 1 is one cube
 pub shared_one : (d : Cell) (c : Cuboid) → shared_with 1 d c ≤ 1
 shared_one d c = mul-le-mul (mul-le-mul (overlap_one d.i c.x) (overlap_one d.j c.y)) (overlap_one d.k c.z)
+
+-- the sum as the library says it
+pub sum_of_by : {X : Type 0} (f : X → ℕ) (xs : List X) → sum_of f xs ≡ sum_by f xs
+sum_of_by f [] = refl
+sum_of_by f (x ∷ xs) = ap (λ n. f x + n) (sum_of_by f xs) ∙ sym (sum_by-cons f x xs)
+
+pub shared_few : (d : Cell) (bs : List Block) → sum_of (λ b. shared_with 1 d b.cuboid) bs ≤ length bs
+shared_few d [] = omega arith
+shared_few d (b ∷ bs) = omega (arith, shared_few d bs, shared_one d b.cuboid)

@@ -1,16 +1,14 @@
 -- What a sink tells after blocks that it took one after another.
-use Rattle.std.proofs.Common.{◌≡◌, ℕ, ◌+◌, ◌*◌, ◌/◌, ◌<◌, List, [], ◌∷◌, ◌++◌, length, get_or, take, Some, None, Err, sym, refl, ap, ◌∙◌, subst, arith}
+use Rattle.std.proofs.Common.{◌≡◌, ℕ, ◌+◌, ◌*◌, ◌/◌, ◌<◌, ◌≤◌, List, [], ◌∷◌, ◌++◌, length, get_or, take, Ok, Err, sym, refl, ap, ◌∙◌, subst, arith}
 use Rattle.std.proofs.lemmas.List.{take_more, take_all, get_or_read}
-use Rattle.std.proofs.lemmas.Option.{MatchOption-at_none}
 use Rattle.geometry.specs.declared.block.Block.{Block}
 use Rattle.geometry.specs.declared.cell.Cell.{Cell}
 use Rattle.geometry.specs.Limits.{site}
 use Rattle.geometry.specs.Sums.{sum_of}
 use Rattle.geometry.specs.Boxes.{volume_of, shared_with}
-use Rattle.sinks.specs.Meaning.{Parts, Chain, Takes, Taken, Taking, PowerOfTwo, over_materials, shared_by}
+use Rattle.sinks.specs.Meaning.{Parts, Chain, Takes, Offering, Taken, Taking, PowerOfTwo, over_materials, shared_by}
 use Rattle.sinks.specs.Laws.{BlocksTold, CellsAddUp, SinksAgree, Offers, inner}
-use Rattle.sinks.specs.declared.offers.Offered.{Offered}
-use Rattle.sinks.specs.declared.refusal.SinkRefusal.{SinkRefusal}
+use Rattle.sinks.specs.declared.offers.Refused.{Refused}
 use Rattle.sinks.proofs.Materials.{over_at, over_none}
 use Rattle.sinks.proofs.Grids.{over_blocks, over_same_cells, shared_finer, shared_whole, divides}
 
@@ -70,22 +68,31 @@ offers_more {S} R s t u blocks n b h is chain r =
     let Q : Block → Type 0 = λ x. R t x u in
     subst P (sym (take_more blocks n b h)) (chain_push R s t u (take n blocks) (get_or blocks n b) chain (subst Q is r))
 
-pub offers_refused : {S : Type 0} (edge : ℕ) (parts : S → Parts) (took : S → Block → S → Type 0) (kept : S → S → Type 0) (s t u : S) (blocks : List Block) (n : ℕ) (b : Block) (e : SinkRefusal)
+pub offers_refused : {S : Type 0} (edge : ℕ) (parts : S → Parts) (took : S → Block → S → Type 0) (kept : S → S → Type 0) (s t u : S) (blocks : List Block) (n : ℕ) (b : Block) (e : Refused)
     → n < length blocks → b ≡ get_or blocks n b → Chain (Taking edge parts took) s (take n blocks) t
-    → Takes edge (parts t) (parts u) b (Err e) → kept t u → Offers edge parts took kept s u blocks (record { taken = n; refusal = Some e })
-offers_refused {S} edge parts took kept s t u blocks n b e h is chain takes same =
-    let R : Block → Type 0 = λ x. Takes edge (parts t) (parts u) x (Err e) in
-    record { within = omega arith; through = t; chain = chain; ending = (h, same, λ d. subst R (get_or_read blocks n b h is d) takes) }
-
-pub offers_all : {S : Type 0} (edge : ℕ) (parts : S → Parts) (took : S → Block → S → Type 0) (kept : S → S → Type 0) (s t : S) (blocks : List Block) (n : ℕ)
-    → n ≡ length blocks → Chain (Taking edge parts took) s (take n blocks) t → Offers edge parts took kept s t blocks (record { taken = n; refusal = None })
-offers_all edge parts took kept s t blocks n e chain = record { within = omega arith; through = t; chain = chain; ending = (e, refl) }
+    → e.taken ≡ n → Offering edge parts took kept t u b (Err e.refusal) → Offers edge parts took kept s u blocks (Err e)
+offers_refused {S} edge parts took kept s t u blocks n b e h is chain at o =
+    let R : Block → Type 0 = λ x. Takes edge (parts t) (parts u) x (Err e.refusal) in
+    let C : ℕ → Type 0 = λ k. Chain (Taking edge parts took) s (take k blocks) t in
+    let B : ℕ → Type 0 = λ k. b ≡ get_or blocks k b in
+    record {
+      within = omega arith;
+      through = t;
+      chain = subst C (sym at) chain;
+      ending = (omega arith, o.state, λ d. subst R (get_or_read blocks e.taken b (omega arith) (subst B (sym at) is) d) o.takes);
+    }
 
 -- where nothing was refused, all blocks were taken
-pub offers_whole : {S : Type 0} (edge : ℕ) (parts : S → Parts) (took : S → Block → S → Type 0) (kept : S → S → Type 0) (s t : S) (blocks : List Block) (r : Offered)
-    → Offers edge parts took kept s t blocks r → r.refusal ≡ None → Chain (Taking edge parts took) s blocks t
-offers_whole {S} edge parts took kept s t blocks r offers e =
-    let all = MatchOption-at_none ((r.taken ≡ length blocks) × (t ≡ offers.through)) _ e offers.ending in
+pub offers_all : {S : Type 0} (edge : ℕ) (parts : S → Parts) (took : S → Block → S → Type 0) (kept : S → S → Type 0) (s t : S) (blocks : List Block) (n : ℕ)
+    → length blocks ≤ n → Chain (Taking edge parts took) s (take n blocks) t → Offers edge parts took kept s t blocks (Ok tt)
+offers_all {S} edge parts took kept s t blocks n h chain =
     let P : List Block → Type 0 = λ bs. Chain (Taking edge parts took) s bs t in
-    let Q : S → Type 0 = λ u. Chain (Taking edge parts took) s (take r.taken blocks) u in
-    subst P (take_all r.taken blocks (omega (arith, all.0))) (subst Q (sym all.1) offers.chain)
+    let all : take n blocks ≡ take (length blocks) blocks = take_all n blocks h ∙ sym (take_all (length blocks) blocks (omega arith)) in
+    record { within = omega arith; through = t; chain = subst P all chain; ending = refl }
+
+pub offers_whole : {S : Type 0} (edge : ℕ) (parts : S → Parts) (took : S → Block → S → Type 0) (kept : S → S → Type 0) (s t : S) (blocks : List Block)
+    → Offers edge parts took kept s t blocks (Ok tt) → Chain (Taking edge parts took) s blocks t
+offers_whole {S} edge parts took kept s t blocks offers =
+    let P : List Block → Type 0 = λ bs. Chain (Taking edge parts took) s bs t in
+    let Q : S → Type 0 = λ u. Chain (Taking edge parts took) s (take (length blocks) blocks) u in
+    subst P (take_all (length blocks) blocks (omega arith)) (subst Q (sym offers.ending) offers.chain)

@@ -1,7 +1,7 @@
 -- Cells of the raster and the places of their numbers.
-use Rattle.std.proofs.Common.{◌≡◌, ℕ, ◌+◌, ◌/◌, ◌%◌, ◌<◌, ◌≤◌, true, cond, List, length, get_or, replicate, refl, ap, ◌∙◌, ⊎_elim, arith}
-use Rattle.std.proofs.lemmas.List.{get_or-replicate, get_or_past, length-replicate}
-use Rattle.std.proofs.lemmas.Bool.{cases_lt, cases_Bool, cond-true, cond-false}
+use Rattle.std.proofs.Common.{◌≡◌, ℕ, ◌+◌, ◌/◌, ◌%◌, ◌<◌, ◌≤◌, true, cond, List, length, get_or, replicate, set, ◌≢◌, subst, sym, refl, ap, ◌∙◌, ⊎_elim, arith}
+use Rattle.std.proofs.lemmas.List.{get_or-replicate, get_or_past, length-replicate, get_or-set_same, get_or-set_other}
+use Rattle.std.proofs.lemmas.Bool.{cases_lt, cases_eq, cases_Bool, cond-true, cond-false}
 use Rattle.geometry.specs.declared.span.Span.{Span}
 use Rattle.geometry.specs.declared.cuboid.Cuboid.{Cuboid}
 use Rattle.geometry.specs.declared.cell.Cell.{Cell}
@@ -55,6 +55,21 @@ shared_skip lo mid hi c xs ys le done none = record {
   under = done.under;
   over = λ n h. done.over n (omega arith);
 }
+
+-- the number of one cell more
+pub shared_more : (c : Cuboid) (xs ys : List ℕ) (d : Cell) (m n p v : ℕ) → in_grid 1024 d ≡ true → p ≡ place_of d → v ≡ shared_with 1024 d c → m ≡ p → n ≡ p + 1 → p < length ys
+    → SharedIn 0 m c xs ys → SharedIn 0 n c xs (set ys p (get_or ys p 0 + v))
+shared_more c xs ys d m n p v within at share mp np h done =
+    let here : get_or (set ys p (get_or ys p 0 + v)) p 0 ≡ get_or ys p 0 + v = get_or-set_same ys p (get_or ys p 0 + v) 0 h in
+    let other : (k : ℕ) → k ≢ p → get_or (set ys p (get_or ys p 0 + v)) k 0 ≡ get_or ys k 0 = λ k q. get_or-set_other ys p k (get_or ys p 0 + v) 0 q in
+    let place : share_at p c ≡ v = ap (λ k. share_at k c) at ∙ share_place d c within ∙ sym share in
+    record {
+      inside = λ k l q. ⊎_elim
+          (λ (e : k ≡ p). subst (λ (i : ℕ). get_or (set ys p (get_or ys p 0 + v)) i 0 ≡ get_or xs i 0 + share_at i c) (sym e) (omega (arith, here, done.over p (omega arith), place)))
+          (λ (e : k ≢ p). omega (arith, other k e, done.inside k l (omega arith))) (cases_eq k p);
+      under = λ k l. absurd (omega arith);
+      over = λ k l. omega (arith, other k (λ e. absurd (omega arith)), done.over k (omega arith));
+    }
 
 -- a raster begins with zeros
 pub zeros : (n k : ℕ) → get_or {A = ℕ} (replicate n 0) k 0 ≡ 0

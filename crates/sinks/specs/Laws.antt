@@ -1,12 +1,12 @@
 -- Laws over the blocks that a sink took.
-use Rattle.std.specs.Prelude.{◌≡◌, ℕ, ◌+◌, ◌*◌, ◌/◌, ◌<◌, ◌≤◌, List, length, take, Err, MatchOption, slice_index_or}
+use Rattle.std.specs.Prelude.{◌≡◌, ℕ, ◌+◌, ◌*◌, ◌/◌, ◌<◌, ◌≤◌, List, length, take, Ok, Err, Result, MatchResult, slice_index_or}
 use Rattle.geometry.specs.declared.block.Block.{Block}
 use Rattle.geometry.specs.declared.cell.Cell.{Cell}
 use Rattle.geometry.specs.Limits.{site}
 use Rattle.geometry.specs.Sums.{total, sum_of}
 use Rattle.geometry.specs.Boxes.{volume_of}
-use Rattle.sinks.specs.Meaning.{Parts, Takes, Taken, Taking, Empty, Chain, PowerOfTwo, over_materials, for_material, shared_by}
-use Rattle.sinks.specs.declared.offers.Offered.{Offered}
+use Rattle.sinks.specs.Meaning.{Parts, Takes, Offering, Taken, Taking, Empty, Chain, PowerOfTwo, over_materials, for_material, shared_by}
+use Rattle.sinks.specs.declared.offers.Refused.{Refused}
 
 -- how many of the blocks have a material
 abbrev pub count_in : List Block → ℕ → ℕ
@@ -54,10 +54,19 @@ abbrev pub SinksAgree : {S T : Type 0} → ℕ → (S → Parts) → ℕ → (T 
 SinksAgree {S} {T} fine parts coarse others = (n : ℕ) → coarse ≡ n * fine → (s s' : S) (t t' : T) (bs : List Block)
     → Empty (parts s) → Chain (Taken fine parts) s bs s' → Empty (others t) → Chain (Taken coarse others) t bs t' → Agree n (parts s') (others t')
 
+-- a block was offered after so many that were taken, which a refusal tells
+abbrev pub OffersAfter : {S : Type 0} → ℕ → (S → Parts) → (S → Block → S → Type 0) → (S → S → Type 0) → S → S → ℕ → Block → Result (Unit {0}) Refused → Type 0
+OffersAfter edge parts took kept s t n x r = MatchResult r (λ _. Offering edge parts took kept s t x (Ok tt)) (λ e. (e.taken ≡ n) × Offering edge parts took kept s t x (Err e.refusal))
+
+-- how many of n offered blocks were taken: all of them, or those before the refused one
+abbrev pub taken_of : ℕ → Result (Unit {0}) Refused → ℕ
+taken_of n (Ok u) = n
+taken_of n (Err e) = e.taken
+
 -- blocks were offered in order up to the first refusal: so many were taken, each as the sink promises
-pub record Offers {S : Type 0} (edge : ℕ) (parts : S → Parts) (took : S → Block → S → Type 0) (kept : S → S → Type 0) (s t : S) (blocks : List Block) (r : Offered) : Type 0 where
-  pub within : r.taken ≤ length blocks
+pub record Offers {S : Type 0} (edge : ℕ) (parts : S → Parts) (took : S → Block → S → Type 0) (kept : S → S → Type 0) (s t : S) (blocks : List Block) (r : Result (Unit {0}) Refused) : Type 0 where
+  pub within : taken_of (length blocks) r ≤ length blocks
   pub through : S
-  pub chain : Chain (Taking edge parts took) s (take r.taken blocks) through
-  pub ending : MatchOption r.refusal ((r.taken ≡ length blocks) × (t ≡ through))
-      (λ e. (r.taken < length blocks) × kept through t × ((d : Block) → Takes edge (parts through) (parts t) (slice_index_or blocks r.taken d) (Err e)))
+  pub chain : Chain (Taking edge parts took) s (take (taken_of (length blocks) r) blocks) through
+  pub ending : MatchResult r (λ _. t ≡ through)
+      (λ e. (e.taken < length blocks) × kept through t × ((d : Block) → Takes edge (parts through) (parts t) (slice_index_or blocks e.taken d) (Err e.refusal)))

@@ -9,6 +9,6 @@ use geometry::limits::SITE;
 pub fn in_grid(edge: u32, cell: Cell) -> bool
     ensures { result ≡ in_grid edge cell }
 {
-    let n = if edge == 0 { 0 } else { SITE / edge };
+    let n = SITE.checked_div(edge).unwrap_or(0);
     cell.i < n && cell.j < n && cell.k < n
 }

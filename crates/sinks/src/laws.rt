@@ -16,9 +16,7 @@ pub fn grids_add_up()
 // The cells of a sink that began empty add up to all its volumes.
 pub fn cells_add_up<S: Sink>()
     ensures { CellsAddUp S.Sink.edge S.Sink.parts }
-{
-    let _ = S::edge_of();
-}
+{}
 
 // Two sinks that began empty and took the same blocks tell the same; the cells of the finer one that lie in a cell of the
 // coarser one add up to it.

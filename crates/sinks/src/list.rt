@@ -1,7 +1,7 @@
 // A sink that keeps the blocks in the caller's list, in the order of taking.
-ghost use Rattle.std.specs.Prelude.{◌≡◌, ℕ, ◌+◌, ◌<◌, ◌≤◌, List, [], ◌∷◌, ◌++◌, length, take, nat_lt, slice_set};
+ghost use Rattle.std.specs.Prelude.{◌≡◌, ℕ, ◌+◌, ◌<◌, ◌≤◌, List, [], ◌∷◌, ◌++◌, length, take, nat_lt, slice_set, refl};
 ghost use Rattle.geometry.specs.Boxes.{shared_with};
-ghost use Rattle.sinks.specs.Meaning.{Empty, PowerOfTwo, shared_by};
+ghost use Rattle.sinks.specs.Meaning.{Empty, shared_by};
 ghost use Rattle.sinks.specs.Lists.{listed, list_parts, Listed};
 
 use crate::grid::in_grid;
@@ -13,6 +13,7 @@ use geometry::cell::Cell;
 
 #[derive(Drop)]
 pub struct BlockList<'s> {
+    // Stays: a run allocates nothing, so the caller lends the memory.
     slots: &'s mut [Block],
     len: usize,
     tallies: Tallies,
@@ -45,25 +46,29 @@ impl<'s> BlockList<'s> {
     {
         self.len < self.slots.len()
     }
+
+    // The blocks of the list.
+    fn blocks(&self) -> &[Block]
+        ensures { result.now ≡ listed self.now }
+    {
+        &self.slots[..self.len.min(self.slots.len())]
+    }
 }
 
-// The volume that a block shares with a cell of edge 1.
-fn share_of(block: Block, cell: Cell) -> u64
-    ensures { result ≡ shared_with 1 cell block.cuboid }
+// The volume that a block shares with a cell of edge 1, which is one cube.
+#[tactic(auto, using(crate::proofs::Blocks::shared_one))]
+fn share_of(block: &Block, cell: Cell) -> u64
+    ensures share { result ≡ shared_with 1 cell block.now.cuboid }
+    ensures one { result ≤ 1 }
 {
     block.cuboid.shared(1, cell)
 }
 
-// The volume that the first blocks of a list, which stays as it is, share with a cell of edge 1.
-fn shared_of(slots: &mut [Block], len: usize, cell: Cell) -> u64
-    ensures answer { result ≡ shared_by 1 cell (take len slots.old) }
-    ensures same { slots.new ≡ slots.old }
+// The volume that blocks share with such a cell.
+fn shared_of(blocks: &[Block], cell: Cell) -> u64
+    ensures { result ≡ shared_by 1 cell blocks.now }
 {
-    let mut sum = 0;
-    for i in 0..len.min(slots.len()) {
-        sum += share_of(slots[i], cell);
-    }
-    sum
+    blocks.iter().map(|block| share_of(block, cell)).sum()
 }
 
 impl<'s> Sink for BlockList<'s> {
@@ -80,8 +85,7 @@ impl<'s> Sink for BlockList<'s> {
     ghost text = { λ _. [] };
 
     fn edge_of() -> u32
-        ensures value { result ≡ 1 }
-        ensures power { PowerOfTwo 1 }
+        ensures { result ≡ 1 }
     {
         Self::EDGE
     }
@@ -107,11 +111,12 @@ impl<'s> Sink for BlockList<'s> {
         if !in_grid(Self::EDGE, cell) {
             return Err(SinkRefusal::NoSuch);
         }
-        let len = self.len;
-        Ok(shared_of(self.slots, len, cell))
+        Ok(shared_of(self.blocks(), cell))
     }
 
     fn drain(&mut self, _out: &mut [u8]) -> Result<usize, SinkRefusal> {
         Ok(0)
     }
+
+    ghost power = { refl };
 }

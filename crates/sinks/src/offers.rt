@@ -1,34 +1,39 @@
 // Offering a list of blocks to any sink, in order up to the first refusal.
-ghost use Rattle.sinks.specs.Laws.{Offers};
+ghost use Rattle.std.specs.Prelude.{◌≡◌};
+ghost use Rattle.sinks.specs.Laws.{Offers, OffersAfter};
 
 use crate::refusal::SinkRefusal;
 use crate::sink::Sink;
 use geometry::block::Block;
 
-// How many blocks were taken, and the refusal of the next one, if any.
-#[derive(Clone, Copy)]
-pub struct Offered {
+// Why a block was refused, and how many were taken before it.
+#[derive(Clone, Copy, PartialEq, Eq)]
+pub struct Refused {
     pub taken: usize,
-    pub refusal: Option<SinkRefusal>,
+    pub refusal: SinkRefusal,
 }
 
-pub fn offer_all<S: Sink>(sink: &mut S, blocks: &[Block]) -> Offered
+impl From<Refused> for SinkRefusal {
+    ghost from_gives = { λ refused refusal. refusal ≡ refused.refusal };
+
+    fn from(refused: Refused) -> SinkRefusal {
+        refused.refusal
+    }
+}
+
+// Offers a block after so many that were taken.
+fn offer<S: Sink>(sink: &mut S, taken: usize, block: Block) -> Result<(), Refused>
+    ensures { OffersAfter S.Sink.edge S.Sink.parts S.Sink.took S.Sink.kept sink.old sink.new taken block result }
+{
+    sink.take(block)
+        .map_err(|refusal| Refused { taken, refusal })
+}
+
+pub fn offer_all<S: Sink>(sink: &mut S, blocks: &[Block]) -> Result<(), Refused>
     ensures { Offers S.Sink.edge S.Sink.parts S.Sink.took S.Sink.kept sink.old sink.new blocks.now result }
 {
-    let mut taken = 0;
-    for block in blocks {
-        match sink.take(*block) {
-            Ok(()) => taken += 1,
-            Err(refusal) => {
-                return Offered {
-                    taken,
-                    refusal: Some(refusal),
-                };
-            }
-        }
+    for (taken, block) in blocks.iter().enumerate() {
+        offer(sink, taken, *block)?;
     }
-    Offered {
-        taken,
-        refusal: None,
-    }
+    Ok(())
 }

@@ -26,15 +26,17 @@ pub trait Sink {
     // What a drain hands out: nothing for a sink that has none.
     ghost text: { Self → List ℕ };
 
-    // The edge that the meaning uses is the constant, and a power of two.
+    // The edge that the meaning uses is the constant.
+    // Stays: a ghost `EDGE` beside the constant is not proved where an impl has a lifetime, as that of the block list.
     fn edge_of() -> u32
-        ensures value { result ≡ edge }
-        ensures power { PowerOfTwo edge };
+        ensures { result ≡ edge };
 
     // Offers a block.
     fn take(&mut self, block: Block) -> Result<(), SinkRefusal>
         ensures { Offering edge parts took kept self.old self.new block result };
 
+    // Stays: `count`, `volume` and an idle `drain` are one line in each sink; a body here would need a member for the
+    // tallies and laws that tie it to `parts` and `kept`.
     fn count(&mut self, material: u8) -> Result<u64, SinkRefusal>
         ensures { Asking parts kept (material < materials) ((parts self.old).count material) self.old self.new result };
 
@@ -47,4 +49,7 @@ pub trait Sink {
     // Hands out the text and empties it.
     fn drain(&mut self, out: &mut [u8]) -> Result<usize, SinkRefusal>
         ensures { Draining parts text kept self.old self.new out.old out.new result };
+
+    // The edge is a power of two.
+    ghost power: { PowerOfTwo edge };
 }

@@ -1,9 +1,10 @@
 // The raster as a sink.
-ghost use Rattle.std.specs.Prelude.{◌≡◌, ℕ, ◌+◌, ◌%◌, ◌<◌, ◌≤◌, true, [], length};
+ghost use Rattle.std.specs.Prelude.{◌≡◌, ℕ, ◌+◌, ◌%◌, ◌<◌, ◌≤◌, true, [], length, refl};
 ghost use Rattle.geometry.specs.declared.block.Block.{Block};
 ghost use Rattle.geometry.specs.declared.cell.Cell.{Cell};
 ghost use Rattle.sinks.specs.Meaning.{Empty, in_grid, limit};
-ghost use Rattle.sinks.specs.Rasters.{cell_at, place_of, share_at, first_of, after_of, SharedIn, SmallFrom, raster_parts};
+ghost use Rattle.geometry.specs.Boxes.{shared_with};
+ghost use Rattle.sinks.specs.Rasters.{place_of, first_of, after_of, SharedIn, SmallFrom, raster_parts};
 
 use super::Raster;
 use crate::grid::in_grid;
@@ -15,17 +16,6 @@ use geometry::cell::Cell;
 use geometry::cuboid::Cuboid;
 use geometry::span::Span;
 
-// The cell that is kept at a place.
-fn cell_at(n: u32) -> Cell
-    ensures { result ≡ cell_at n }
-{
-    Cell {
-        i: n % 16,
-        j: n / 16 % 16,
-        k: n / 256,
-    }
-}
-
 // The place where a cell is kept.
 fn place_of(cell: Cell) -> usize
     requires { in_grid 1024 cell ≡ true }
@@ -34,12 +24,12 @@ fn place_of(cell: Cell) -> usize
     (cell.i + 16 * cell.j + 256 * cell.k) as usize
 }
 
-// The volume that a box shares with the cell at a place.
-fn share_of(n: u32, cuboid: Cuboid) -> u64
-    ensures share { result ≡ share_at n cuboid }
+// The volume that a box shares with a cell.
+fn share_of(cell: Cell, cuboid: Cuboid) -> u64
+    ensures share { result ≡ shared_with 1024 cell cuboid }
     ensures small { result ≤ limit }
 {
-    cuboid.shared(1024, cell_at(n))
+    cuboid.shared(1024, cell)
 }
 
 // The first stretch of the grid that a stretch reaches, and the one after the last.
@@ -52,38 +42,22 @@ fn reach(span: Span) -> (u32, u32)
     (at / 1024, (at + span.size.0 - 1) / 1024 + 1)
 }
 
-// Adds to each of the 16 cells of a row the volume that it shares with the box.
-fn add_row(cells: &mut [u64], cuboid: Cuboid, begin: u32)
-    requires { (length cells.old ≡ 4096) × ((begin + 16 ≤ 4096) × ((begin % 16 ≡ 0) × (SmallFrom begin cells.old))) }
-    ensures { SharedIn begin (begin + 16) cuboid cells.old cells.new }
-{
-    let (first, after) = reach(cuboid.x);
-    for i in first..after {
-        let n = begin + i;
-        let share = share_of(n, cuboid);
-        cells[n as usize] += share;
-    }
-}
-
-// The same for the 16 rows of a plane.
-fn add_plane(cells: &mut [u64], cuboid: Cuboid, begin: u32)
-    requires { (length cells.old ≡ 4096) × ((begin + 256 ≤ 4096) × ((begin % 256 ≡ 0) × (SmallFrom begin cells.old))) }
-    ensures { SharedIn begin (begin + 256) cuboid cells.old cells.new }
-{
-    let (first, after) = reach(cuboid.y);
-    for j in first..after {
-        add_row(cells, cuboid, begin + 16 * j);
-    }
-}
-
-// The same for all planes; cells that the box does not reach are not touched.
+// Adds to the number of each cell the volume that it shares with the box; cells that the box does not reach are not
+// touched.
 fn add_box(cells: &mut [u64], cuboid: Cuboid)
     requires { (length cells.old ≡ 4096) × (SmallFrom 0 cells.old) }
     ensures { SharedIn 0 4096 cuboid cells.old cells.new }
 {
-    let (first, after) = reach(cuboid.z);
-    for k in first..after {
-        add_plane(cells, cuboid, 256 * k);
+    let (west, east) = reach(cuboid.x);
+    let (south, north) = reach(cuboid.y);
+    let (low, high) = reach(cuboid.z);
+    for k in low..high {
+        for j in south..north {
+            for i in west..east {
+                let cell = Cell { i, j, k };
+                cells[place_of(cell)] += share_of(cell, cuboid);
+            }
+        }
     }
 }
 
@@ -142,4 +116,6 @@ impl Sink for Raster {
     fn drain(&mut self, _out: &mut [u8]) -> Result<usize, SinkRefusal> {
         Ok(0)
     }
+
+    ghost power = { refl };
 }

@@ -37,16 +37,18 @@ impl MaterialSums {
     fn at(&self, m: usize) -> u64
         ensures { result ≡ number_of self.now m }
     {
-        if m < 16 { self.each[m] } else { 0 }
+        self.each.get(m).copied().unwrap_or(0)
     }
-}
 
-// The volume of a block, which is at least one cubic millimetre.
-fn volume_of_block(block: Block) -> u64
-    ensures value { result ≡ volume_of block.cuboid }
-    ensures some { 1 ≤ result }
-{
-    block.cuboid.volume()
+    // The same, refused where there is no such material.
+    fn told(&self, material: u8) -> Result<u64, SinkRefusal>
+        ensures { Tells (material < materials) (number_of self.now material) result }
+    {
+        self.each
+            .get(material as usize)
+            .copied()
+            .ok_or(SinkRefusal::NoSuch)
+    }
 }
 
 impl Tallies {
@@ -75,13 +77,14 @@ impl Tallies {
         Ok(())
     }
 
-    // One block more.
+    // One block more, whose volume is at least one cubic millimetre.
+    #[tactic(auto, using(crate::proofs::Materials::volume_some))]
     fn add(&mut self, block: Block)
         requires { (block.material < materials) × (self.old.volumes.all + volume_of block.cuboid ≤ limit) }
         ensures { Noted self.old self.new block }
     {
         let m = block.material as usize;
-        let volume = volume_of_block(block);
+        let volume = block.cuboid.volume();
         self.counts.add(m, 1);
         self.volumes.add(m, volume);
     }
@@ -90,31 +93,21 @@ impl Tallies {
     pub fn receive(&mut self, block: Block, room: bool) -> Result<(), SinkRefusal>
         ensures { Receives self.old self.new block room result }
     {
-        match self.judge(block, room) {
-            Ok(()) => {
-                self.add(block);
-                Ok(())
-            }
-            Err(refusal) => Err(refusal),
-        }
+        self.judge(block, room)?;
+        self.add(block);
+        Ok(())
     }
 
     pub fn count_of(&self, material: u8) -> Result<u64, SinkRefusal>
         ensures { Tells (material < materials) (count_of self.now material) result }
     {
-        if material >= MATERIALS {
-            return Err(SinkRefusal::NoSuch);
-        }
-        Ok(self.counts.at(material as usize))
+        self.counts.told(material)
     }
 
     pub fn volume_of(&self, material: u8) -> Result<u64, SinkRefusal>
         ensures { Tells (material < materials) (volume_held self.now material) result }
     {
-        if material >= MATERIALS {
-            return Err(SinkRefusal::NoSuch);
-        }
-        Ok(self.volumes.at(material as usize))
+        self.volumes.told(material)
     }
 
     // All blocks, and all volumes.

@@ -1,28 +1,26 @@
-use Rattle.std.proofs.Common.{◌≡◌, get_or, sym, ap, ◌∙◌, arith}
+use Rattle.std.proofs.Common.{Result, subst, rules, tests}
+use Rattle.sinks.specs.Laws.{Offers}
 use Rattle.sinks.specs.Meaning.{Taking}
+use Rattle.sinks.specs.declared.offers.Refused.{Refused}
 use Rattle.sinks.proofs.Chains.{offers_more, offers_refused, offers_all}
 use Rattle.sinks.proofs.offers.offer_all.Goals as goal
 
-pub returns-in-Err : goal.returns-in-Err
-returns-in-Err g c =
-    let blocks = c.args.blocks.now in
-    let b = c.block-item.result in
-    let is : b ≡ get_or blocks c.loop-block.taken b = c.block-item.is ∙ ap (λ n. get_or blocks n b) (sym c.loop-block.invariant.0) in
-    offers_refused g.S.Sink.edge g.S.Sink.parts g.S.Sink.took g.S.Sink.kept c.args.sink.now c.loop-block.sink c.take.new.self blocks
-    c.loop-block.taken b c.in-Err.refusal (omega arith) is c.loop-block.invariant.1 c.in-Err.ensures.takes c.in-Err.ensures.state
+pub returns-in_err-offer : goal.returns-in_err-offer
+returns-in_err-offer g c =
+    let k = g.S.Sink in
+    let P : Result (Unit {0}) Refused → Type 0 = λ r. Offers k.edge k.parts k.took k.kept c.args.sink.now c.offer.new.sink c.args.blocks.now r in
+    subst P (search (rules, tests))
+    (offers_refused k.edge k.parts k.took k.kept c.args.sink.now c.loop-taken.sink c.offer.new.sink c.args.blocks.now c.loop-taken.taken c.index-blocks-taken.result
+    c.in_err-offer.field-0.0 c.loop-taken-test.true c.index-blocks-taken.is c.loop-taken.invariant c.in_err-offer.ensures.0 c.in_err-offer.ensures.1)
 
-pub loop-block-preserved : goal.loop-block-preserved
-loop-block-preserved g c =
-    let blocks = c.args.blocks.now in
-    let b = c.block-item.result in
-    let is : b ≡ get_or blocks c.loop-block.taken b = c.block-item.is ∙ ap (λ n. get_or blocks n b) (sym c.loop-block.invariant.0) in (
-      omega arith,
-      offers_more (Taking g.S.Sink.edge g.S.Sink.parts g.S.Sink.took) c.args.sink.now c.loop-block.sink
-          c.take.new.self blocks c.loop-block.taken b (omega arith) is c.loop-block.invariant.1
-          (c.in-Ok.ensures.takes, c.in-Ok.ensures.state),
-    )
+pub loop-taken-preserved : goal.loop-taken-preserved
+loop-taken-preserved g c =
+    let k = g.S.Sink in
+    offers_more (Taking k.edge k.parts k.took) c.args.sink.now c.loop-taken.sink c.offer.new.sink c.args.blocks.now c.loop-taken.taken c.index-blocks-taken.result
+    c.loop-taken-test.true c.index-blocks-taken.is c.loop-taken.invariant (c.in_ok-offer.ensures.takes, c.in_ok-offer.ensures.state)
 
 pub returns : goal.returns
 returns g c =
-    offers_all g.S.Sink.edge g.S.Sink.parts g.S.Sink.took g.S.Sink.kept c.args.sink.now c.loop-block.sink c.args.blocks.now
-    c.loop-block.taken (omega arith) c.loop-block.invariant.1
+    let k = g.S.Sink in
+    offers_all k.edge k.parts k.took k.kept c.args.sink.now c.loop-taken.sink c.args.blocks.now
+    c.loop-taken.taken c.loop-taken-test.false c.loop-taken.invariant
