@@ -1,33 +1,41 @@
--- One byte more of a line.
-use Rattle.std.proofs.Common.{◌≡◌, ℕ, ◌+◌, ◌<◌, ◌≤◌, min, Bool, true, false, cond, eqb, List, [], ◌∷◌, ◌++◌, length, get_or, drop, sym, refl, ap, ◌∙◌, ⊎_elim, arith}
-use Rattle.std.proofs.lemmas.List.{at_drop_more, at_drop_all, append_assoc}
-use Rattle.std.proofs.lemmas.Bool.{cond-true, cond-false, eq-eqb, ne_eqb, eqb-true, cases_lt, and_from}
-use Rattle.text.specs.Lines.{last_line, lines_from, lines_of, lines_at, fed, completed, no_feed, no_feeds, Rejoins}
+-- The first line of a file, and the lines joined again.
+use Rattle.std.proofs.Common.{◌≡◌, ℕ, ◌+◌, ◌<◌, ◌≤◌, Bool, true, false, cond, eqb, List, [], ◌∷◌, ◌++◌, length, get_or, take, drop, sym, refl, ap, ◌∙◌, length-drop, arith}
+use Rattle.std.proofs.lemmas.List.{at_drop_more, at_drop_all, append_assoc, take_more, take_all}
+use Rattle.std.proofs.lemmas.Bool.{cond-true, cond-false, eq-eqb, ne_eqb, eqb-true, and_from}
+use Rattle.text.proofs.Along.{along}
+use Rattle.text.specs.Lines.{Cut, last_line, lines_from, lines_of, fed, completed, no_feed, no_feeds, Rejoins}
 
-pub line_more : (xs acc : List ℕ) (i : ℕ) → i < length xs → (get_or xs i 0 ≡ 10 → ⊥)
+line_more : (xs acc : List ℕ) (i : ℕ) → i < length xs → (get_or xs i 0 ≡ 10 → ⊥)
     → lines_from acc (drop i xs) ≡ lines_from (acc ++ get_or xs i 0 ∷ []) (drop (i + 1) xs)
 line_more xs acc i h e = at_drop_more (lines_from acc) xs i 0 h ∙ cond-false _ _ _ (ne_eqb (get_or xs i 0) 10 e)
 
-pub line_feed : (xs acc : List ℕ) (i : ℕ) → i < length xs → get_or xs i 0 ≡ 10 → lines_from acc (drop i xs) ≡ acc ∷ lines_at xs (i + 1)
-line_feed xs acc i h e = at_drop_more (lines_from acc) xs i 0 h ∙ cond-true _ _ _ (eq-eqb (get_or xs i 0) 10 e)
+-- up to the byte n no line ends
+within_line : (xs : List ℕ) (n : ℕ) → n ≤ length xs → ((k : ℕ) → k < n → get_or xs k 0 ≡ 10 → ⊥) → lines_of xs ≡ lines_from (take n xs) (drop n xs)
+within_line xs n h f =
+    along (λ i. lines_from (take i xs) (drop i xs)) 0 n (omega arith)
+    (λ i p q. line_more xs (take i xs) i (omega arith) (f i q) ∙ ap (λ w. lines_from w (drop (i + 1) xs)) (sym (take_more xs i 0 (omega arith))))
+
+-- a line that a line feed ends
+pub cut_at : (xs : List ℕ) (n : ℕ) → n < length xs → get_or xs n 0 ≡ 10 → ((k : ℕ) → k < n → get_or xs k 0 ≡ 10 → ⊥) → Cut xs (take n xs) (drop (n + 1) xs)
+cut_at xs n h e f = record {
+  same =
+      within_line xs n (omega arith) f
+      ∙ (at_drop_more (lines_from (take n xs)) xs n 0 h ∙ cond-true _ _ _ (eq-eqb (get_or xs n 0) 10 e));
+  shorter = omega (arith, length-drop (n + 1) xs);
+}
 
 last_some : (w : List ℕ) → 0 < length w → last_line w ≡ w ∷ []
 last_some [] h = absurd (omega arith)
 last_some (b ∷ w) h = refl
 
-pub line_last : (xs acc : List ℕ) (i : ℕ) → length xs ≤ i → 0 < length acc → lines_from acc (drop i xs) ≡ acc ∷ lines_at xs (i + 1)
-line_last xs acc i h l =
-    at_drop_all (lines_from acc) xs i h ∙ (last_some acc l ∙ ap (λ v. acc ∷ v) (sym (at_drop_all (lines_from []) xs (i + 1) (omega arith))))
-
--- past the end there is no line
-pub line_none : (xs : List ℕ) (i : ℕ) → length xs ≤ i → lines_at xs i ≡ []
-line_none xs i h = at_drop_all (lines_from []) xs i h
-
--- the start of the next line, counted from the end of this one
-pub line_after : (xs : List ℕ) (end to : ℕ) → to ≡ min (end + 1) (length xs) → lines_at xs (end + 1) ≡ lines_at xs to
-line_after xs end to e =
-    ⊎_elim (λ h. let q : end + 1 ≡ to = omega arith in ap (lines_at xs) q)
-    (λ h. line_none xs (end + 1) (omega arith) ∙ sym (line_none xs to (omega arith))) (cases_lt end (length xs))
+-- a last line that none ends
+pub cut_all : (xs : List ℕ) → 0 < length xs → ((k : ℕ) → k < length xs → get_or xs k 0 ≡ 10 → ⊥) → Cut xs xs []
+cut_all xs h f = record {
+  same =
+      within_line xs (length xs) (omega arith) f
+      ∙ (at_drop_all (lines_from (take (length xs) xs)) xs (length xs) (omega arith) ∙ rw (take_all (length xs) xs (omega arith)) (last_some xs h));
+  shorter = h;
+}
 
 -- the lines joined again
 

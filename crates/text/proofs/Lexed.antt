@@ -1,17 +1,23 @@
 -- One byte more of a line's lexemes.
-use Rattle.std.proofs.Common.{◌≡◌, ℕ, ◌+◌, ◌-◌, ◌<◌, ◌≤◌, Bool, true, false, cond, ◌||◌, eqb, List, [], ◌∷◌, ◌++◌, length, get_or, drop, sym, refl, ap, ◌∙◌, ⊎_elim, add-zero, arith}
+use Rattle.std.proofs.Common.{◌≡◌, ℕ, ◌+◌, ◌-◌, ◌<◌, ◌≤◌, Bool, true, false, cond, not, ◌||◌, eqb, List, [], ◌∷◌, ◌++◌, length, get_or, take, drop, Some, None, Option, sym, refl, ap, ◌∙◌, ⊎_elim, add-zero, arith}
 use Rattle.std.proofs.lemmas.List.{at_drop_more, at_drop_all, append-nil}
 use Rattle.std.proofs.lemmas.Bool.{cond-true, cond-false, cases_lt, eq-eqb, ne_eqb, cases_Bool, both_ways}
-use Rattle.std.proofs.lemmas.List.Edits.{length-between, get_or-between}
+use Rattle.std.proofs.lemmas.List.Edits.{length-between, get_or-between, between_more}
 use Rattle.std.specs.List.{between}
 use Rattle.std.proofs.lemmas.Bool.Decides.{nat_tests}
-use Rattle.text.specs.Bytes.{kind_of, is_digit, is_space, separates}
-use Rattle.text.specs.Tokens.{lexed, ended, tokens_at, opening, closing, number, word, Lexeme, run_of, RunTo}
+use Rattle.text.proofs.Along.{along}
+use Rattle.std.specs.Option.{unwrap_or}
+use Rattle.text.specs.Bytes.{kind_of, is_digit, is_space, separates, FirstFrom}
+use Rattle.text.specs.Tokens.{lexed, ended, tokens_at, opening, closing, number, word, Lexeme, run_of, Skipped, RunTo}
 use Rattle.text.specs.declared.bytes.Kind.{Kind}
 use Rattle.text.specs.declared.bytes.Kind.TheVariants.{Digit, Open, Close}
 
-pub skip_more : (xs : List ℕ) (i : ℕ) → i < length xs → is_space (get_or xs i 0) ≡ true → tokens_at xs i ≡ tokens_at xs (i + 1)
+skip_more : (xs : List ℕ) (i : ℕ) → i < length xs → is_space (get_or xs i 0) ≡ true → tokens_at xs i ≡ tokens_at xs (i + 1)
 skip_more xs i h e = at_drop_more (lexed (i + 1) []) xs i 0 h ∙ cond-true _ _ _ e
+
+-- spaces from `at` to r
+skip_to : (xs : List ℕ) (at r : ℕ) → at ≤ r → r ≤ length xs → ((k : ℕ) → at ≤ k → k < r → is_space (get_or xs k 0) ≡ true) → tokens_at xs at ≡ tokens_at xs r
+skip_to xs at r h l f = along (tokens_at xs) at r h (λ i p q. skip_more xs i (omega arith) (f i p q))
 
 none_of : {X : Type 0} (a b c : Bool) (x y z w : X) → (a || b || c) ≡ false → cond a x (cond b y (cond c z w)) ≡ w
 none_of true true true x y z w e = cc
@@ -34,17 +40,17 @@ one_of false true false e x y z v w h = refl
 one_of false false true e x y z v w h = refl
 one_of false false false e x y z v w h = cc
 
-pub run_more : (xs acc : List ℕ) (i k : ℕ) → i < length xs → separates (get_or xs i 0) ≡ false
+run_more : (xs acc : List ℕ) (i k : ℕ) → i < length xs → separates (get_or xs i 0) ≡ false
     → lexed k acc (drop i xs) ≡ lexed (k + 1) (acc ++ get_or xs i 0 ∷ []) (drop (i + 1) xs)
 run_more xs acc i k h e =
     at_drop_more (lexed k acc) xs i 0 h ∙ none_of (eqb (get_or xs i 0) 32) (eqb (get_or xs i 0) 40) (eqb (get_or xs i 0) 41) _ _ _ _ e
 
-pub run_past : (xs acc : List ℕ) (i : ℕ) → length xs ≤ i → lexed (i + 1) acc (drop i xs) ≡ ended (i + 1) acc ++ tokens_at xs i
+run_past : (xs acc : List ℕ) (i : ℕ) → length xs ≤ i → lexed (i + 1) acc (drop i xs) ≡ ended (i + 1) acc ++ tokens_at xs i
 run_past xs acc i h =
     at_drop_all (lexed (i + 1) acc) xs i h
     ∙ (sym (append-nil (ended (i + 1) acc)) ∙ ap (λ t. ended (i + 1) acc ++ t) (sym (at_drop_all (lexed (i + 1) []) xs i h)))
 
-pub run_stop : (xs acc : List ℕ) (i : ℕ) → i < length xs → separates (get_or xs i 0) ≡ true
+run_stop : (xs acc : List ℕ) (i : ℕ) → i < length xs → separates (get_or xs i 0) ≡ true
     → lexed (i + 1) acc (drop i xs) ≡ ended (i + 1) acc ++ tokens_at xs i
 run_stop xs acc i h e =
     at_drop_more (lexed (i + 1) acc) xs i 0 h
@@ -52,7 +58,7 @@ run_stop xs acc i h e =
     ∙ ap (λ t. ended (i + 1) acc ++ t) (sym (at_drop_more (lexed (i + 1) []) xs i 0 h)))
 
 -- a run that stopped at i has moved past the place where it began, unless it could not begin there
-pub moved : (xs : List ℕ) (at i : ℕ) → at ≤ i → separates (get_or xs i 0) ≡ true → separates (get_or xs at 0) ≡ false → at < i
+moved : (xs : List ℕ) (at i : ℕ) → at ≤ i → separates (get_or xs i 0) ≡ true → separates (get_or xs at 0) ≡ false → at < i
 moved xs at i h e f =
     ⊎_elim (λ l. l)
     (λ l. let q : at ≡ i = omega arith in
@@ -61,8 +67,48 @@ moved xs at i h e f =
     omega arith) (cases_lt at i)
 
 -- past the end there is no lexeme
-pub past_end : (xs : List ℕ) (i : ℕ) → length xs ≤ i → tokens_at xs i ≡ []
+past_end : (xs : List ℕ) (i : ℕ) → length xs ≤ i → tokens_at xs i ≡ []
 past_end xs i h = at_drop_all (lexed (i + 1) []) xs i h
+
+true_not : (b : Bool) → not b ≡ true → b ≡ false
+true_not true e = sym e
+true_not false e = refl
+
+false_not : (b : Bool) → not b ≡ false → b ≡ true
+false_not true e = refl
+false_not false e = sym e
+
+pub skipped : (xs : List ℕ) (at : ℕ) (r : Option ℕ) → FirstFrom (λ b. not (is_space b)) xs at r → Skipped xs at r
+skipped xs at (Some i) h = (h.1, true_not (is_space (get_or xs i 0)) h.2, skip_to xs at i h.0 (omega (arith, h.1)) (λ k a b. false_not (is_space (get_or xs k 0)) (h.3 k a b)))
+skipped xs at None h =
+    ⊎_elim (λ l. skip_to xs at (length xs) (omega arith) (omega arith) (λ k a b. false_not (is_space (get_or xs k 0)) (h k a b)) ∙ past_end xs (length xs) (omega arith)) (λ l. past_end xs at l)
+    (cases_lt at (length xs))
+
+between_none : (xs : List ℕ) (i : ℕ) → between i i xs ≡ []
+between_none xs i = let q : i - i ≡ 0 = omega arith in ap (λ n. take n (drop i xs)) q
+
+-- the run that begins at `at` ends at the first separator
+run_within : (xs : List ℕ) (at n : ℕ) → at ≤ n → n ≤ length xs → ((k : ℕ) → at ≤ k → k < n → separates (get_or xs k 0) ≡ false)
+    → tokens_at xs at ≡ lexed (n + 1) (between at n xs) (drop n xs)
+run_within xs at n h l f =
+    ap (λ w. lexed (at + 1) w (drop at xs)) (sym (between_none xs at))
+    ∙ along (λ i. lexed (i + 1) (between at i xs) (drop i xs)) at n h
+    (λ i p q. run_more xs (between at i xs) i (i + 1) (omega arith) (f i p q)
+    ∙ ap (λ w. lexed (i + 1 + 1) w (drop (i + 1) xs)) (sym (between_more xs at i 0 p (omega arith))))
+
+pub run_ends : (xs : List ℕ) (at : ℕ) (r : Option ℕ) → at ≤ length xs → FirstFrom separates xs at r → RunTo xs at (unwrap_or r (length xs))
+run_ends xs at (Some i) l h = record {
+  low = h.0;
+  high = omega (arith, h.1);
+  moves = λ _ f. moved xs at i h.0 h.2 f;
+  same = run_within xs at i h.0 (omega (arith, h.1)) h.3 ∙ run_stop xs (between at i xs) i h.1 h.2;
+}
+run_ends xs at None l h = record {
+  low = l;
+  high = omega arith;
+  moves = λ p _. p;
+  same = run_within xs at (length xs) l (omega arith) h ∙ run_past xs (between at (length xs) xs) (length xs) (omega arith);
+}
 
 -- what the kind of a byte says of it
 

@@ -1,3 +1,4 @@
+pub mod Along
 pub mod Cuts
 pub mod Lexed
 pub mod Found

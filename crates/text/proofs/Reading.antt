@@ -1,9 +1,10 @@
 -- What the digits of a word say, against what is written of a number.
-use Rattle.std.proofs.Common.{◌≡◌, ℕ, ◌+◌, ◌-◌, ◌*◌, ◌/◌, ◌%◌, ◌^◌, ◌<◌, ◌≤◌, Bool, true, false, cond, leb, List, [], ◌∷◌, ◌++◌, length, get_or, drop, Some, None, decimal, Option, sym, refl, ap, ◌∙◌, ⊎_elim, arith, rules}
+use Rattle.std.proofs.Common.{◌≡◌, ℕ, ◌+◌, ◌-◌, ◌*◌, ◌/◌, ◌%◌, ◌^◌, ◌<◌, ◌≤◌, Bool, true, false, cond, leb, List, [], ◌∷◌, ◌++◌, length, get_or, drop, Some, None, decimal, Option, sym, refl, ap, ◌∙◌, subst, ⊎_elim, arith, rules}
 use Rattle.std.specs.Char.{is_ascii_digit}
+use Rattle.std.specs.Option.{option_and_then}
 use Rattle.std.specs.Str.{all_ascii_digits}
 use Rattle.std.proofs.lemmas.List.{at_drop_more, at_drop_all}
-use Rattle.std.proofs.lemmas.Bool.{cond-true, cond-false, cases_lt, cases_Bool, and_parts, and_from, leb-true, le-leb}
+use Rattle.std.proofs.lemmas.Bool.{cond-true, cond-false, cases_lt, cases_Bool, and_parts, and_from, leb-true, leb-false, le-leb}
 use Rattle.std.proofs.lemmas.Bool.Decides.{nat_tests}
 use Rattle.std.proofs.lemmas.Slice.Eq.{bytes_eq-Decides}
 use Rattle.std.proofs.lemmas.Str.Parse.{IsNumeralModel, numerals_by_fold}
@@ -86,7 +87,7 @@ start_some : (w : List ℕ) → good_start w ≡ true → 0 < length w
 start_some w s = grind (arith, nat_tests)
 
 -- digits that are read, with a good start, are what is written of their value
-pub is_number : (low h n : ℕ) (w : List ℕ) → h < 2 ^ 64 → Some n ≡ reading h 0 w → good_start w ≡ true → low ≤ n → NumberIn low h w (Some n)
+is_number : (low h n : ℕ) (w : List ℕ) → h < 2 ^ 64 → Some n ≡ reading h 0 w → good_start w ≡ true → low ≤ n → NumberIn low h w (Some n)
 is_number low h n w b e s l =
     let r = reads_digits h 0 n w (omega arith) (sym e) in
     let k : value_from 0 w < 2 ^ 64 = omega (arith, r.1, r.2) in
@@ -107,13 +108,22 @@ no_start low high w b s n l k e =
     let c : length w ≡ 1 = ap length (e ∙ f) in
     grind (arith, nat_tests)) (cases_lt 0 n)
 
-pub no_value : (low high : ℕ) (w : List ℕ) → high < 2 ^ 64 → None ≡ reading high 0 w → NumberIn low high w None
+no_value : (low high : ℕ) (w : List ℕ) → high < 2 ^ 64 → None ≡ reading high 0 w → NumberIn low high w None
 no_value low high w b s n l k e = never n (s ∙ (ap (reading high 0) e ∙ reads_decimal high n k b))
 
-pub too_low : (low high m : ℕ) (w : List ℕ) → high < 2 ^ 64 → Some m ≡ reading high 0 w → m < low → NumberIn low high w None
+too_low : (low high m : ℕ) (w : List ℕ) → high < 2 ^ 64 → Some m ≡ reading high 0 w → m < low → NumberIn low high w None
 too_low low high m w b s h n l k e =
     let q : Some m ≡ Some n = s ∙ (ap (reading high 0) e ∙ reads_decimal high n k b) in
     let z : m ≡ n = cc in omega arith
+
+-- of what is read, the number that is at least low
+pub kept : (low high : ℕ) (w : List ℕ) → high < 2 ^ 64 → (o r : Option ℕ) → o ≡ reading high 0 w → good_start w ≡ true
+    → r ≡ option_and_then (λ n. cond (leb low n) (Some n) None) o → NumberIn low high w r
+kept low high w b None r e s q = subst (NumberIn low high w) (sym q) (no_value low high w b e)
+kept low high w b (Some n) r e s q =
+    subst (NumberIn low high w) (sym q)
+    ((elim (leb low n) as (λ t. leb low n ≡ t → NumberIn low high w (cond t (Some n) None))
+    [ true ↦ λ t. is_number low high n w b e s (leb-true low n t) | false ↦ λ t. too_low low high n w b e (leb-false low n t) ]) refl)
 
 -- the number by its definition
 

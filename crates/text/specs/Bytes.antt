@@ -1,5 +1,5 @@
 -- The kinds of bytes.
-use Rattle.std.specs.Prelude.{ℕ, Bool, true, false, cond, ◌&&◌, ◌||◌, ◌==◌, nat_le}
+use Rattle.std.specs.Prelude.{◌≡◌, ℕ, ◌<◌, ◌≤◌, Bool, true, false, cond, ◌&&◌, ◌||◌, List, length, Option, MatchOption, ◌==◌, nat_le, slice_index}
 use Rattle.text.specs.declared.bytes.Kind.{Kind}
 use Rattle.text.specs.declared.bytes.Kind.TheVariants.{Letter, Digit, Hyphen, Space, Open, Close, Other}
 
@@ -42,3 +42,13 @@ allowed b = may_stand (kind_of b)
 -- a space or a round bracket
 abbrev pub separates : ℕ → Bool
 separates b = is_space b || b == 40 || b == 41
+
+-- what is told of a test by its answers is what p says
+abbrev pub Answers : (ℕ → Bool → Type 0) → (ℕ → Bool) → Type 0
+Answers told p = (b : ℕ) (t : Bool) → told b t → t ≡ p b
+
+-- at the index stands the first byte from `at` on that passes p; or none does
+abbrev pub FirstFrom : (ℕ → Bool) → List ℕ → ℕ → Option ℕ → Type 0
+FirstFrom p l at r =
+    MatchOption r ((k : ℕ) → at ≤ k → k < length l → p (slice_index l k) ≡ false)
+    (λ i. (at ≤ i) × (i < length l) × (p (slice_index l i) ≡ true) × ((k : ℕ) → at ≤ k → k < i → p (slice_index l k) ≡ false))

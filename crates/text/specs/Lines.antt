@@ -1,5 +1,5 @@
 -- The lines of a file.
-use Rattle.std.specs.Prelude.{◌≡◌, ℕ, ◌+◌, ◌-◌, ◌<◌, ◌≤◌, Bool, true, false, cond, ◌&&◌, List, [], ◌∷◌, ◌++◌, length, take, drop, Some, None, Option, ◌==◌}
+use Rattle.std.specs.Prelude.{◌≡◌, ℕ, ◌+◌, ◌<◌, Bool, true, false, cond, ◌&&◌, List, [], ◌∷◌, ◌++◌, length, Some, None, Option, ◌==◌}
 use Rattle.text.specs.Bytes.{is_space}
 use Rattle.text.specs.declared.lines.Line.{Line}
 use Rattle.text.specs.declared.lines.Lines.{Lines}
@@ -22,25 +22,14 @@ lines_from acc (b ∷ bs) = cond (b == 10) (acc ∷ lines_from [] bs) (lines_fro
 abbrev pub lines_of : List ℕ → List (List ℕ)
 lines_of xs = lines_from [] xs
 
--- the lines from index i on
-abbrev pub lines_at : List ℕ → ℕ → List (List ℕ)
-lines_at xs i = lines_of (drop i xs)
-
--- the first line from `at` on goes to `end`
-pub record LineTo (xs : List ℕ) (at end : ℕ) : Type 0 where
-  pub low : at ≤ end
-  pub high : end ≤ length xs
-  pub same : lines_at xs at ≡ take (end - at) (drop at xs) ∷ lines_at xs (end + 1)
-
--- the first line from `at` on, and where those after it begin
-pub record LineAt (xs : List ℕ) (at : ℕ) (l : List ℕ) (to : ℕ) : Type 0 where
-  pub same : lines_at xs at ≡ l ∷ lines_at xs to
-  pub low : at < to
-  pub high : to ≤ length xs
+-- the first line, and what follows it
+pub record Cut (xs l rest : List ℕ) : Type 0 where
+  pub same : lines_of xs ≡ l ∷ lines_of rest
+  pub shorter : length rest < length xs
 
 -- the lines that are still to come
 abbrev pub lines_left : Lines → List (List ℕ)
-lines_left s = lines_at s.text.now s.at
+lines_left s = lines_of s.rest.now
 
 -- the next line has the next number, and those after it are left; or there is none
 abbrev pub NextLine : Lines → Lines → Option Line → Type 0

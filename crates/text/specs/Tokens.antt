@@ -38,11 +38,10 @@ tokens_of l = lexed 1 [] l
 abbrev pub tokens_at : List ℕ → ℕ → List (Lexeme × ℕ)
 tokens_at l i = lexed (i + 1) [] (drop i l)
 
--- spaces from `at` to r
-pub record Skipped (l : List ℕ) (at r : ℕ) : Type 0 where
-  pub low : at ≤ r
-  pub same : tokens_at l at ≡ tokens_at l r
-  pub stops : r < length l → is_space (slice_index l r) ≡ false
+-- spaces from `at` to r, where none stands; or up to the end, and there is no lexeme
+abbrev pub Skipped : List ℕ → ℕ → Option ℕ → Type 0
+Skipped l at (Some r) = (r < length l) × (is_space (slice_index l r) ≡ false) × (tokens_at l at ≡ tokens_at l r)
+Skipped l at None = tokens_at l at ≡ []
 
 -- the run that begins at `at` goes to r
 pub record RunTo (l : List ℕ) (at r : ℕ) : Type 0 where

@@ -1,6 +1,6 @@
-// The kinds of bytes that a line is made of.
-ghost use Rattle.std.specs.Prelude.{◌≡◌};
-ghost use Rattle.text.specs.Bytes.{kind_of, allowed, separates, is_space, is_digit, is_letter};
+// The kinds of bytes that a line is made of, and the first byte that passes a test.
+ghost use Rattle.std.specs.Prelude.{◌≡◌, ℕ, ◌<◌, Bool, length, IfSome};
+ghost use Rattle.text.specs.Bytes.{kind_of, allowed, separates, Answers, FirstFrom};
 
 #[derive(Clone, Copy, PartialEq, Eq, Debug)]
 pub(crate) enum Kind {
@@ -13,17 +13,19 @@ pub(crate) enum Kind {
     Other,
 }
 
-pub(crate) fn kind_of(b: u8) -> Kind
-    ensures { result ≡ kind_of b }
-{
-    match b as char {
-        'a'..='z' | 'A'..='Z' => Kind::Letter,
-        '0'..='9' => Kind::Digit,
-        '-' => Kind::Hyphen,
-        ' ' => Kind::Space,
-        '(' => Kind::Open,
-        ')' => Kind::Close,
-        _ => Kind::Other,
+impl From<u8> for Kind {
+    ghost from_gives = { λ b k. k ≡ kind_of b };
+
+    fn from(b: u8) -> Kind {
+        match b as char {
+            'a'..='z' | 'A'..='Z' => Kind::Letter,
+            '0'..='9' => Kind::Digit,
+            '-' => Kind::Hyphen,
+            ' ' => Kind::Space,
+            '(' => Kind::Open,
+            ')' => Kind::Close,
+            _ => Kind::Other,
+        }
     }
 }
 
@@ -31,45 +33,21 @@ pub(crate) fn kind_of(b: u8) -> Kind
 pub(crate) fn is_allowed(b: u8) -> bool
     ensures { result ≡ allowed b }
 {
-    match kind_of(b) {
-        Kind::Other => false,
-        _ => true,
-    }
-}
-
-pub(crate) fn is_space(b: u8) -> bool
-    ensures { result ≡ is_space b }
-{
-    match b as char {
-        ' ' => true,
-        _ => false,
-    }
+    !matches!(Kind::from(b), Kind::Other)
 }
 
 // Whether a byte ends a run.
 pub(crate) fn is_separator(b: u8) -> bool
     ensures { result ≡ separates b }
 {
-    match b as char {
-        ' ' | '(' | ')' => true,
-        _ => false,
-    }
+    matches!(b as char, ' ' | '(' | ')')
 }
 
-pub(crate) fn is_digit(b: u8) -> bool
-    ensures { result ≡ is_digit b }
+// The index of the first byte from `at` on that passes a test.
+pub(crate) fn index_from<F: Fn(u8) -> bool>(bytes: &[u8], at: usize, test: F) -> Option<usize>
+    requires { F.IsAlwaysCallable test }
+    ensures first { (p : ℕ → Bool) → Answers (F.post test) p → FirstFrom p bytes.now at result }
+    ensures within { IfSome result (λ i. i < length bytes.now) }
 {
-    match b as char {
-        '0'..='9' => true,
-        _ => false,
-    }
-}
-
-pub(crate) fn is_letter(b: u8) -> bool
-    ensures { result ≡ is_letter b }
-{
-    match b as char {
-        'a'..='z' | 'A'..='Z' => true,
-        _ => false,
-    }
+    bytes.iter().skip(at).position(|b| test(*b)).map(|n| at + n)
 }

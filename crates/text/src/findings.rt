@@ -4,7 +4,7 @@ ghost use Rattle.stack.specs.Held.{entries, capacity};
 ghost use Rattle.text.specs.Findings.{too_long, not_allowed, is_fault, First, unbalanced, levels, Bracketed};
 ghost use Rattle.text.specs.Scans.{Goes};
 
-use crate::bytes::is_allowed;
+use crate::bytes::{index_from, is_allowed};
 use stack::Stack;
 
 // The most bytes that a line may have, and the most brackets that may be open at once.
@@ -16,11 +16,7 @@ pub const LEVELS: usize = 8;
 pub fn find_too_long(line: &[u8]) -> Option<usize>
     ensures { result ≡ too_long line.now }
 {
-    if line.len() > LINE_LIMIT {
-        Some(LINE_LIMIT + 1)
-    } else {
-        None
-    }
+    (line.len() > LINE_LIMIT).then_some(LINE_LIMIT + 1)
 }
 
 // A byte that may not stand in a line.
@@ -28,39 +24,20 @@ pub fn find_not_allowed(line: &[u8]) -> Option<usize>
     ensures value { result ≡ not_allowed line.now }
     ensures first { First is_fault line.now result }
 {
-    for (i, b) in line.iter().enumerate() {
-        if !is_allowed(*b) {
-            return Some(i + 1);
-        }
-    }
-    None
+    index_from(line, 0, |b| !is_allowed(b)).map(|i| i + 1)
 }
 
-// One byte of a line, where the columns of the open brackets are stacked: whether the brackets may go on after it.
-fn bracket_step(opened: &mut Stack<usize>, b: u8, column: usize) -> bool
+// One byte of a line, where the columns of the open brackets are stacked: the column where the brackets cannot go on after it.
+fn bracket_step(opened: &mut Stack<usize>, b: u8, column: usize) -> Result<(), usize>
     requires { capacity opened.old ≡ levels }
     ensures goes { Goes column (entries opened.old) b (entries opened.new) result }
     ensures size { capacity opened.new ≡ levels }
 {
     match b as char {
-        '(' => opened.push(column).is_ok(),
-        ')' => opened.pop().is_some(),
-        _ => true,
+        '(' => opened.push(column).map_err(|_| column),
+        ')' => opened.pop().map(|_| ()).ok_or(column),
+        _ => Ok(()),
     }
-}
-
-// One pass over the brackets of a line.
-fn scan_brackets(line: &[u8]) -> Option<usize>
-    ensures { result ≡ unbalanced line.now }
-{
-    let mut memory = [0; LEVELS];
-    let mut opened = Stack::new(&mut memory);
-    for (i, b) in line.iter().enumerate() {
-        if !bracket_step(&mut opened, *b, i + 1) {
-            return Some(i + 1);
-        }
-    }
-    opened.top()
 }
 
 // A bracket that cannot stand where it does: a closing one with none open, one that opens a level too many, or,
@@ -69,5 +46,12 @@ pub fn find_unbalanced(line: &[u8]) -> Option<usize>
     ensures value { result ≡ unbalanced line.now }
     ensures plain { Bracketed line.now result }
 {
-    scan_brackets(line)
+    let mut memory = [0; LEVELS];
+    let mut opened = Stack::new(&mut memory);
+    for (i, b) in line.iter().enumerate() {
+        if let Err(column) = bracket_step(&mut opened, *b, i + 1) {
+            return Some(column);
+        }
+    }
+    opened.top()
 }

@@ -1,5 +1,5 @@
 // The lines of a file.
-ghost use Rattle.std.specs.Prelude.{◌≤◌, length};
+ghost use Rattle.std.specs.Prelude.{◌+◌, ◌<◌, ◌^◌, length};
 
 pub mod split;
 
@@ -10,12 +10,10 @@ pub struct Line<'a> {
     pub number: usize,
 }
 
-// The lines of a file from the index `at` on, after `before` others.
+// The lines of a file that are still to come, after `before` others.
 #[derive(Clone, Copy)]
 pub struct Lines<'a> {
-    text: &'a [u8],
-    at: usize,
+    rest: &'a [u8],
     before: usize,
-    ghost within: { at ≤ length text.now },
-    ghost counted: { before ≤ at },
+    ghost counted: { before + length rest.now < 2 ^ 64 },
 }

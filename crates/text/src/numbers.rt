@@ -2,13 +2,11 @@
 ghost use Rattle.std.specs.Prelude.{◌≡◌, ◌≤◌, IfSome};
 ghost use Rattle.text.specs.Numbers.{good_start, digit_more, reading, number_in, NumberIn};
 
-use crate::bytes::is_digit;
-
 // Whether a word has a byte, and the digit 0 at its start only where it has no other.
 fn has_good_start(word: &[u8]) -> bool
     ensures { result ≡ good_start word.now }
 {
-    word.len() >= 1 && (word[0] != b'0' || word.len() == 1)
+    !matches!(word, [] | [b'0', _, ..])
 }
 
 // The value of a number and one digit more, if it is at most `high`.
@@ -16,15 +14,11 @@ fn one_more(n: u32, b: u8, high: u32) -> Option<u32>
     ensures value { result ≡ digit_more high n b }
     ensures below { IfSome result (λ m. m ≤ high) }
 {
-    if !is_digit(b) {
+    if !b.is_ascii_digit() {
         return None;
     }
     let more = n as u64 * 10 + (b - b'0') as u64;
-    if more <= high as u64 {
-        Some(more as u32)
-    } else {
-        None
-    }
+    u32::try_from(more).ok().filter(|m| *m <= high)
 }
 
 // The value of a word of digits, if it is at most `high`.
@@ -33,10 +27,7 @@ fn value_of(word: &[u8], high: u32) -> Option<u32>
 {
     let mut n = 0;
     for b in word {
-        match one_more(n, *b, high) {
-            Some(more) => n = more,
-            None => return None,
-        }
+        n = one_more(n, *b, high)?;
     }
     Some(n)
 }
@@ -49,8 +40,5 @@ pub fn number_in(word: &[u8], low: u32, high: u32) -> Option<u32>
     if !has_good_start(word) {
         return None;
     }
-    match value_of(word, high) {
-        Some(n) => if n >= low { Some(n) } else { None },
-        None => None,
-    }
+    value_of(word, high).filter(|n| *n >= low)
 }

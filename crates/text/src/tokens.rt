@@ -1,10 +1,12 @@
 // The tokens of a line: round brackets, numbers and words.
 ghost use Rattle.std.specs.Prelude.{◌≡◌, ℕ, ◌+◌, ◌<◌, ◌≤◌, false, [], length, Decides, slice_index};
+ghost use Rattle.std.specs.Iterator.{item_count};
 ghost use Rattle.text.specs.Bytes.{is_space};
 ghost use Rattle.text.specs.Lines.{is_blank};
+ghost use Rattle.text.specs.Takes.{OfKind, open_at, close_at, number_at, word_at};
 ghost use Rattle.text.specs.Tokens.{Skipped, RunTo, TokenAt, tokens_of, tokens_left, NextToken, Tokenized};
 
-use crate::bytes::{Kind, is_separator, is_space, kind_of};
+use crate::bytes::{Kind, index_from, is_separator};
 use crate::lines::Line;
 use crate::placed::Placed;
 
@@ -15,6 +17,44 @@ pub enum Token<'a> {
     Close,
     Number(&'a [u8]),
     Word(&'a [u8]),
+}
+
+impl<'a> Token<'a> {
+    // Whether it is an opening bracket.
+    pub fn opening(self) -> Option<()>
+        ensures { OfKind open_at self.entry result }
+    {
+        matches!(self, Token::Open).then_some(())
+    }
+
+    // Whether it is a closing bracket.
+    pub fn closing(self) -> Option<()>
+        ensures { OfKind close_at self.entry result }
+    {
+        matches!(self, Token::Close).then_some(())
+    }
+
+    // The bytes of a number.
+    pub fn number(self) -> Option<&'a [u8]>
+        ensures { OfKind number_at self.entry result }
+    {
+        if let Token::Number(w) = self {
+            Some(w)
+        } else {
+            None
+        }
+    }
+
+    // The bytes of a word.
+    pub fn word(self) -> Option<&'a [u8]>
+        ensures { OfKind word_at self.entry result }
+    {
+        if let Token::Word(w) = self {
+            Some(w)
+        } else {
+            None
+        }
+    }
 }
 
 // The tokens of a line from the index `at` on.
@@ -29,23 +69,14 @@ pub fn is_blank(bytes: &[u8]) -> bool
     ensures value { result ≡ is_blank bytes.now }
     ensures decides { Decides result (tokens_of bytes.now ≡ []) }
 {
-    for b in bytes {
-        if !is_space(*b) {
-            return false;
-        }
-    }
-    true
+    bytes.iter().all(|b| *b == b' ')
 }
 
-// The first index from `at` on that holds no space, or the length.
-fn skip_spaces(bytes: &[u8], at: usize) -> usize
+// The first index from `at` on that holds no space.
+fn skip_spaces(bytes: &[u8], at: usize) -> Option<usize>
     ensures { Skipped bytes.now at result }
 {
-    let mut i = at;
-    while i < bytes.len() && is_space(bytes[i]) {
-        i += 1;
-    }
-    i
+    index_from(bytes, at, |b| b != b' ')
 }
 
 // The end of the run that begins at `at`.
@@ -53,11 +84,7 @@ fn run_end(bytes: &[u8], at: usize) -> usize
     requires { at ≤ length bytes.now }
     ensures { RunTo bytes.now at result }
 {
-    let mut i = at;
-    while i < bytes.len() && !is_separator(bytes[i]) {
-        i += 1;
-    }
-    i
+    index_from(bytes, at, is_separator).unwrap_or(bytes.len())
 }
 
 // The token that begins at `at`, where no space stands, and its end.
@@ -65,7 +92,7 @@ fn token_at<'a>(bytes: &'a [u8], at: usize) -> (Token<'a>, usize)
     requires { (at < length bytes.now) × (is_space (slice_index bytes.now at) ≡ false) }
     ensures { TokenAt bytes.now at result }
 {
-    match kind_of(bytes[at]) {
+    match Kind::from(bytes[at]) {
         Kind::Open => (Token::Open, at + 1),
         Kind::Close => (Token::Close, at + 1),
         Kind::Digit => {
@@ -79,14 +106,6 @@ fn token_at<'a>(bytes: &'a [u8], at: usize) -> (Token<'a>, usize)
     }
 }
 
-// All tokens of a line.
-fn at_start<'a>(line: Line<'a>) -> Tokens<'a>
-    ensures all { tokens_left result ≡ tokens_of line.entry.bytes.now }
-    ensures place { result.line.number ≡ line.entry.number }
-{
-    Tokens { line, at: 0 }
-}
-
 impl<'a> Tokens<'a> {
     // All tokens of a line. Laid out at their columns they are the line, and each run is whole.
     pub fn of(line: Line<'a>) -> Tokens<'a>
@@ -94,24 +113,26 @@ impl<'a> Tokens<'a> {
         ensures place { result.line.number ≡ line.entry.number }
         ensures law { Tokenized line.entry.bytes.now (tokens_left result) }
     {
-        at_start(line)
+        Tokens { line, at: 0 }
     }
+}
 
-    // The next token with its place, if there is one.
-    pub fn next(&mut self) -> Option<Placed<Token<'a>>>
-        ensures { NextToken self.old self.new result }
-    {
+// The tokens with their places, one after the other.
+impl<'a> Iterator for Tokens<'a> {
+    type Item = Placed<Token<'a>>;
+
+    ghost next_gives = { λ s r t. NextToken s t r };
+
+    ghost remaining = { item_count tokens_left };
+
+    fn next(&mut self) -> Option<Placed<Token<'a>>> {
         let bytes = self.line.bytes;
-        let line = self.line.number;
-        let at = skip_spaces(bytes, self.at);
-        if at >= bytes.len() {
-            return None;
-        }
+        let at = skip_spaces(bytes, self.at)?;
         let (value, end) = token_at(bytes, at);
         self.at = end;
         Some(Placed {
             value,
-            line,
+            line: self.line.number,
             column: at + 1,
         })
     }

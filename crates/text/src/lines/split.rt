@@ -1,7 +1,9 @@
 // Lines one after the other.
-ghost use Rattle.std.specs.Prelude.{◌≡◌, ℕ, ◌+◌, ◌<◌, min, length, nat_lt};
-ghost use Rattle.text.specs.Lines.{LineTo, LineAt, lines_of, lines_left, NextLine, file_limit, Rejoins};
+ghost use Rattle.std.specs.Prelude.{◌≡◌, ◌<◌, length, nat_lt};
+ghost use Rattle.std.specs.Iterator.{item_count};
+ghost use Rattle.text.specs.Lines.{Cut, lines_of, lines_left, NextLine, file_limit, Rejoins};
 
+use crate::bytes::index_from;
 use crate::lines::{Line, Lines};
 
 // The most bytes that a file may have.
@@ -14,47 +16,14 @@ pub fn is_too_long(text: &[u8]) -> bool
     text.len() > FILE_LIMIT
 }
 
-// The end of the line that begins at `at`: the index of its line feed, or the file's length.
-fn line_end(text: &[u8], at: usize) -> usize
-    requires { at < length text.now }
-    ensures { LineTo text.now at result }
+// The first line, up to its line feed or the end, and what follows it.
+fn first_line<'a>(text: &'a [u8]) -> (&'a [u8], &'a [u8])
+    requires { 0 < length text.now }
+    ensures { Cut text.now result.0.now result.1.now }
 {
-    let mut i = at;
-    while i < text.len() && text[i] != b'\n' {
-        i += 1;
-    }
-    i
-}
-
-// Where the next line begins after one that ends at `end`.
-fn next_start(text: &[u8], end: usize) -> usize
-    ensures { result ≡ min (end + 1) (length text.now) }
-{
-    if end < text.len() {
-        end + 1
-    } else {
-        text.len()
-    }
-}
-
-// The line that begins at `at`, and where the next one begins.
-fn line_at<'a>(text: &'a [u8], at: usize) -> (&'a [u8], usize)
-    requires { at < length text.now }
-    ensures { LineAt text.now at result.0.now result.1 }
-{
-    let end = line_end(text, at);
-    (&text[at..end], next_start(text, end))
-}
-
-// All lines of a file.
-fn at_start<'a>(text: &'a [u8]) -> Lines<'a>
-    ensures all { lines_left result ≡ lines_of text.now }
-    ensures first { result.before ≡ 0 }
-{
-    Lines {
-        text,
-        at: 0,
-        before: 0,
+    match index_from(text, 0, |b| b == b'\n') {
+        Some(end) => (&text[..end], &text[end + 1..]),
+        None => (text, &[]),
     }
 }
 
@@ -65,21 +34,28 @@ impl<'a> Lines<'a> {
         ensures first { result.before ≡ 0 }
         ensures law { Rejoins text.now (lines_left result) }
     {
-        at_start(text)
+        Lines {
+            rest: text,
+            before: 0,
+        }
     }
+}
 
-    // The next line, if there is one.
-    pub fn next(&mut self) -> Option<Line<'a>>
-        ensures { NextLine self.old self.new result }
-    {
-        let text = self.text;
-        let at = self.at;
-        if at >= text.len() {
+// The lines with their numbers, one after the other.
+impl<'a> Iterator for Lines<'a> {
+    type Item = Line<'a>;
+
+    ghost next_gives = { λ s r t. NextLine s t r };
+
+    ghost remaining = { item_count lines_left };
+
+    fn next(&mut self) -> Option<Line<'a>> {
+        if self.rest.is_empty() {
             return None;
         }
-        let (bytes, to) = line_at(text, at);
+        let (bytes, rest) = first_line(self.rest);
         let number = self.before + 1;
-        self.at = to;
+        self.rest = rest;
         self.before = number;
         Some(Line { bytes, number })
     }

@@ -1,5 +1,6 @@
-use Rattle.std.proofs.Common.{◌^◌, ◌<◌, sym, arith}
-use Rattle.text.proofs.Reading.{no_start, no_value, too_low, is_number, number_is}
+use Rattle.std.proofs.Common.{◌≡◌, ◌^◌, ◌<◌, cond, nat_le, Some, None, sym, arith, rules}
+use Rattle.std.specs.Option.{option_and_then}
+use Rattle.text.proofs.Reading.{no_start, kept, number_is}
 use Rattle.text.proofs.numbers.number_in.Goals as goal
 
 pub returns-then-not-has_good_start : goal.returns-then-not-has_good_start
@@ -8,20 +9,9 @@ returns-then-not-has_good_start c =
     let p = no_start c.args.low c.args.high c.args.word.now b (sym c.if-not-has_good_start.ensures) in
     record { value = number_is _ _ _ _ b p; plain = p }
 
-pub returns-in-None : goal.returns-in-None
-returns-in-None c =
+pub returns : goal.returns
+returns c =
     let b : c.args.high < 2 ^ 64 = omega arith in
-    let p = no_value c.args.low c.args.high c.args.word.now b c.in-None.ensures in
-    record { value = number_is _ _ _ _ b p; plain = p }
-
-pub returns-then-n-low : goal.returns-then-n-low
-returns-then-n-low c =
-    let b : c.args.high < 2 ^ 64 = omega arith in
-    let p = is_number c.args.low c.args.high _ c.args.word.now b c.in-Some.ensures (sym c.if-not-has_good_start.ensures) c.if-n-low.true in
-    record { value = number_is _ _ _ _ b p; plain = p }
-
-pub returns-else-n-low : goal.returns-else-n-low
-returns-else-n-low c =
-    let b : c.args.high < 2 ^ 64 = omega arith in
-    let p = too_low c.args.low c.args.high _ c.args.word.now b c.in-Some.ensures c.if-n-low.false in
+    let e : c.filter.result ≡ option_and_then (λ n. cond (nat_le c.args.low n) (Some n) None) c.value_of.result = search rules in
+    let p = kept c.args.low c.args.high c.args.word.now b c.value_of.result c.filter.result c.value_of.ensures (sym c.if-not-has_good_start.ensures) e in
     record { value = number_is _ _ _ _ b p; plain = p }

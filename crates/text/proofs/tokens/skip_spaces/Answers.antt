@@ -1,7 +1,8 @@
-use Rattle.std.proofs.Common.{sym, ◌∙◌, arith}
-use Rattle.text.proofs.Lexed.{skip_more}
+use Rattle.std.proofs.Common.{not, rules}
+use Rattle.text.specs.Bytes.{is_space}
+use Rattle.text.proofs.Lexed.{skipped}
 use Rattle.text.proofs.tokens.skip_spaces.Goals as goal
 
-pub loop-i-preserved : goal.loop-i-preserved
-loop-i-preserved c =
-    (omega arith, c.loop-i.invariant.1 ∙ skip_more c.args.bytes.now c.loop-i.i (omega arith) (sym c.if-is_space.ensures))
+pub returns : goal.returns
+returns c =
+    skipped c.args.bytes.now c.args.at c.index_from.result (c.index_from.ensures.first (λ b. not (is_space b)) (λ b t e. search rules))

@@ -13,5 +13,5 @@ returns-in-Digit c =
 
 pub returns-in_default : goal.returns-in_default
 returns-in_default c =
-    token_word c.args.bytes.now c.args.at _ c.kind_of.result c.run_end-end-in_default.ensures c.requires.0 c.requires.1
-    c.kind_of.ensures c.in_default.not-Open c.in_default.not-Close c.in_default.not-Digit
+    token_word c.args.bytes.now c.args.at _ c.from.result c.run_end-end-in_default.ensures c.requires.0 c.requires.1
+    c.from.ensures c.in_default.not-Open c.in_default.not-Close c.in_default.not-Digit

@@ -2,7 +2,7 @@ use Rattle.std.proofs.Common.{◌≡◌, ◌+◌, [], drop}
 use Rattle.stack.specs.Held.{entries, capacity}
 use Rattle.text.specs.Findings.{levels}
 use Rattle.text.specs.Scans.{scanned}
-use Rattle.text.proofs.findings.scan_brackets.Given as goal
+use Rattle.text.proofs.findings.find_unbalanced.Given as goal
 
 abbrev pub invariant-loop-i : goal.invariant-loop-i
 invariant-loop-i l =
