@@ -1,10 +1,10 @@
 -- The line that applies to a scope.
-use Rattle.std.specs.Prelude.{◌≡◌, ℕ, ◌<◌, ◌≤◌, Bool, true, false, ◌&&◌, List, length, take, nat_le, slice_index_or}
+use Rattle.std.specs.Prelude.{◌≡◌, ℕ, ◌<◌, ◌≤◌, Bool, true, false, ◌&&◌, List, length, nat_le, slice_index_or}
 use Rattle.geometry.specs.declared.cuboid.Cuboid.{Cuboid}
 use Rattle.geometry.specs.Boxes.{span_on}
 use Rattle.book.specs.declared.guard.Guard.{Guard}
 use Rattle.book.specs.declared.line.Line.{Line}
-use Rattle.book.specs.Checks.{every}
+use Rattle.book.specs.Checks.{every, guards_of}
 
 -- a guard holds if the size on its axis is from low to high, both included
 abbrev pub holds : Cuboid → Guard → Bool
@@ -16,7 +16,7 @@ hold c gs = every (holds c) gs
 
 -- all guards of a line hold
 abbrev pub opens_to : Cuboid → Line → Bool
-opens_to c l = hold c (take l.guarded l.guards)
+opens_to c l = hold c (guards_of l)
 
 -- line i is the first from the rule's first line on whose guards all hold
 pub record Applies (ls : List Line) (rule : ℕ) (c : Cuboid) (i : ℕ) (l : Line) : Type 0 where

@@ -1,15 +1,18 @@
 -- What a check has found of the lines of a book, as a test.
-use Rattle.std.specs.Prelude.{ℕ, ◌+◌, Bool, true, false, ◌&&◌, List, [], ◌∷◌, take, ◌==◌, nat_lt}
+use Rattle.std.specs.Prelude.{ℕ, ◌+◌, Bool, true, false, ◌&&◌, List, [], ◌∷◌, length, take, ◌==◌, nat_lt}
+use Rattle.std.specs.List.{list_all}
+use Rattle.bounded.specs.Listed.{listed}
 use Rattle.geometry.specs.Limits.{most_lines}
 use Rattle.rows.specs.declared.parts.Parts.{Parts}
+use Rattle.rows.specs.Rows.{parts_of}
+use Rattle.book.specs.declared.guard.Guard.{Guard}
 use Rattle.book.specs.declared.body.Body.{Body}
 use Rattle.book.specs.declared.body.Body.TheVariants.{Make, Use, Repeat, Split}
 use Rattle.book.specs.declared.line.Line.{Line}
 
 -- all elements pass the test
 abbrev pub every : {X : Type 0} → (X → Bool) → List X → Bool
-every p [] = true
-every p (x ∷ xs) = p x && every p xs
+every p xs = list_all p xs
 
 -- a rule is told by the index of a line
 abbrev pub known : ℕ → Bool
@@ -29,7 +32,7 @@ ok_rules i ts = ok_known ts && ok_lone i ts
 
 -- the rules of the parts of a split, in order
 abbrev pub part_rules : Parts → List ℕ → List ℕ
-part_rules p ts = take p.count ts
+part_rules p ts = take (length (parts_of p)) ts
 
 -- the body of line i names a material or rules that exist; a rule that takes the whole scope stands further down
 abbrev pub ok_body : ℕ → Body → Bool
@@ -43,10 +46,14 @@ abbrev pub ok_from : ℕ → List Line → Bool
 ok_from i [] = true
 ok_from i (l ∷ ls) = ok_body i l.body && ok_from (i + 1) ls
 
+-- the guards of a line
+abbrev pub guards_of : Line → List Guard
+guards_of l = listed l.guards
+
 -- the last line has no guard
 abbrev pub last_free : List Line → Bool
 last_free [] = false
-last_free (l ∷ []) = l.guarded == 0
+last_free (l ∷ []) = length (guards_of l) == 0
 last_free (l ∷ m ∷ ls) = last_free (m ∷ ls)
 
 abbrev pub ok_lines : List Line → Bool

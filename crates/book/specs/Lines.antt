@@ -5,7 +5,7 @@ use Rattle.book.specs.declared.body.Body.{Body}
 use Rattle.book.specs.declared.body.Body.TheVariants.{Make, Use, Repeat, Split}
 use Rattle.book.specs.declared.line.Line.{Line}
 use Rattle.book.specs.declared.table.RuleTable.{RuleTable}
-use Rattle.book.specs.Checks.{part_rules}
+use Rattle.book.specs.Checks.{part_rules, guards_of}
 
 abbrev pub lines_of : RuleTable → List Line
 lines_of t = t.lines
@@ -32,4 +32,4 @@ BodyOk i (Split a p ts) = Known (part_rules p ts) × Lone i (part_rules p ts)
 pub record Checked (ls : List Line) : Type 0 where
   pub size : length ls ≡ most_lines
   pub body : (i : ℕ) (l : Line) → i < most_lines → l ≡ slice_index_or ls i l → BodyOk i l.body
-  pub last : (l : Line) → l ≡ slice_index_or ls 63 l → l.guarded ≡ 0
+  pub last : (l : Line) → l ≡ slice_index_or ls 63 l → length (guards_of l) ≡ 0

@@ -12,5 +12,6 @@ pub enum Body {
     // equal tiles along the axis, each with this rule
     Repeat(Axis, Tile, u8),
     // parts along the axis, the k-th with the k-th of these rules
+    // Stays: there are as many rules as parts, so a list with a length of its own could only disagree with the parts.
     Split(Axis, Parts, [u8; 16]),
 }

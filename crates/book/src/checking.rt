@@ -5,25 +5,24 @@ ghost use Rattle.book.specs.Lines.{lines_of};
 
 use crate::body::Body;
 use crate::line::Line;
-use crate::table::RuleTable;
+use crate::table::{PLACES, RuleTable};
+use geometry::limits::MOST_LINES;
 use rows::parts::Parts;
+
+// The materials are numbered below this.
+const MATERIALS: u8 = 16;
 
 // A rule is told by the index of a line.
 fn is_known(rule: u8) -> bool
     ensures { result ≡ known rule }
 {
-    rule < 64
+    rule < MOST_LINES
 }
 
 fn ok_known(rules: &[u8]) -> bool
     ensures { result ≡ ok_known rules.now }
 {
-    for rule in rules {
-        if !is_known(*rule) {
-            return false;
-        }
-    }
-    true
+    rules.iter().all(|rule| is_known(*rule))
 }
 
 // A lone part goes on with a rule further down than line i.
@@ -46,41 +45,41 @@ fn ok_rules(i: usize, rules: &[u8]) -> bool
 fn ok_parts(i: usize, parts: Parts, rules: &[u8; 16]) -> bool
     ensures { result ≡ ok_rules i (part_rules parts rules.now) }
 {
-    ok_rules(i, &rules[0..parts.len()])
+    ok_rules(i, &rules[..parts.len()])
 }
 
 fn ok_body(i: usize, body: &Body) -> bool
     ensures { result ≡ ok_body i body.now }
 {
     match *body {
-        Body::Make(material) => material < 16,
-        Body::Use(rule) => i < rule as usize && rule < 64,
-        Body::Repeat(_, _, rule) => i < rule as usize && rule < 64,
+        Body::Make(material) => material < MATERIALS,
+        Body::Use(rule) => i < rule as usize && is_known(rule),
+        Body::Repeat(_, _, rule) => i < rule as usize && is_known(rule),
         Body::Split(_, parts, rules) => ok_parts(i, parts, &rules),
     }
 }
 
 fn ok_from(lines: &[Line]) -> bool
-    requires { length lines.now ≤ 64 }
     ensures { result ≡ ok_from 0 lines.now }
 {
-    for (i, line) in lines.iter().enumerate() {
-        if !ok_body(i, &line.body) {
-            return false;
-        }
-    }
-    true
+    lines
+        .iter()
+        .enumerate()
+        .all(|(i, line)| ok_body(i, &line.body))
 }
 
-fn last_free(lines: &[Line; 64]) -> bool
+fn last_free(lines: &[Line]) -> bool
     ensures { result ≡ last_free lines.now }
 {
-    lines[63].guarded == 0
+    let Some(last) = lines.last() else {
+        return false;
+    };
+    last.guards.len() == 0
 }
 
 impl RuleTable {
     // None where a line does not pass.
-    pub fn new(lines: [Line; 64]) -> Option<RuleTable>
+    pub fn new(lines: [Line; PLACES]) -> Option<RuleTable>
         ensures { MatchOption result (ok_lines lines ≡ false) (λ t. lines_of t ≡ lines) }
     {
         if ok_from(&lines) && last_free(&lines) {

@@ -1,5 +1,6 @@
 // The line that applies to a scope.
 ghost use Rattle.std.specs.Prelude.{◌≡◌};
+ghost use Rattle.std.specs.List.{position};
 ghost use Rattle.book.specs.Applying.{holds as guard_holds, hold, opens_to, Applies};
 ghost use Rattle.book.specs.Lines.{lines_of};
 
@@ -19,33 +20,33 @@ fn holds(guard: Guard, cuboid: Cuboid) -> bool
 fn all_hold(guards: &[Guard], cuboid: Cuboid) -> bool
     ensures { result ≡ hold cuboid guards.now }
 {
-    for guard in guards {
-        if !holds(*guard, cuboid) {
-            return false;
-        }
-    }
-    true
+    guards.iter().all(|guard| holds(*guard, cuboid))
 }
 
 fn is_open(line: &Line, cuboid: Cuboid) -> bool
     ensures { result ≡ opens_to cuboid line.now }
 {
-    all_hold(&line.guards[0..line.guarded], cuboid)
+    all_hold(line.guards.as_slice(), cuboid)
+}
+
+// The place of the first line whose guards all hold.
+fn first_open(lines: &[Line], cuboid: Cuboid) -> Option<usize>
+    ensures { result ≡ position (opens_to cuboid) lines.now }
+{
+    lines.iter().position(|line| is_open(line, cuboid))
 }
 
 impl RuleTable {
-    // The index of the first line from the rule's first on whose guards all hold, and that line.
-    pub fn choose(&self, scope: Scope) -> (usize, Line)
-        ensures { Applies (lines_of self.now) scope.rule scope.cuboid result.0 result.1 }
+    // The index of the first line from the rule's first on whose guards all hold, and that line. There is one: the last
+    // line has no guard.
+    pub fn choose(&self, scope: Scope) -> (usize, &Line)
+        ensures { Applies (lines_of self.now) scope.rule scope.cuboid result.0 result.1.now }
     {
-        let mut i = scope.rule as usize;
-        while i < 63 {
-            let line = self.lines[i];
-            if is_open(&line, scope.cuboid) {
-                return (i, line);
-            }
-            i += 1;
-        }
-        (63, self.lines[63])
+        let first = scope.rule as usize;
+        let Some(k) = first_open(&self.lines[first..], scope.cuboid) else {
+            unreachable!()
+        };
+        let i = first + k;
+        (i, &self.lines[i])
     }
 }

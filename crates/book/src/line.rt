@@ -1,14 +1,11 @@
-// A rule line: its guards, the first `guarded` of `guards`, its body, and the number of its line in the file.
-ghost use Rattle.std.specs.Prelude.{◌≤◌};
-
+// A rule line: its guards, its body, and the number of its line in the file.
 use crate::body::Body;
 use crate::guard::Guard;
+use bounded::inline::InlineVec;
 
 #[derive(Clone, Copy)]
 pub struct Line {
-    pub guards: [Guard; 3],
-    pub guarded: usize,
+    pub guards: InlineVec<Guard, 3>,
     pub body: Body,
     pub number: u32,
-    ghost few: { guarded ≤ 3 },
 }

@@ -1,6 +1,6 @@
-use Rattle.std.proofs.Common.{sym}
-use Rattle.book.proofs.Scans.{last_is_lem}
+use Rattle.std.proofs.Common.{ap, sym, ◌∙◌, eqb}
+use Rattle.book.proofs.Scans.{last_read}
 use Rattle.book.proofs.checking.last_free.Goals as goal
 
 pub returns : goal.returns
-returns c = sym (last_is_lem c.args.lines.now 63 c.index-lines-63.result c.told-lines)
+returns c = ap (λ n. eqb n 0) c.len.ensures.value ∙ sym (last_read c.args.lines.now c.in-Some.last.now c.in-Some.ensures.value)

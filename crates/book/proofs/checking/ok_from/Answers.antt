@@ -1,14 +1,14 @@
-use Rattle.std.proofs.Common.{sym, ◌∙◌}
-use Rattle.std.proofs.lemmas.List.{at_drop_all}
-use Rattle.book.specs.Checks.{ok_from}
-use Rattle.book.proofs.Scans.{from_more}
+use Rattle.std.proofs.Common.{ℕ, rules, sym, ◌∙◌}
+use Rattle.std.proofs.lemmas.Iterator.{YieldsList-from_slice}
+use Rattle.std.proofs.lemmas.Iterator.Consumers.{YieldsList-from_enumerate}
+use Rattle.std.proofs.lemmas.Iterator.Search.{all_from_yields_List}
+use Rattle.book.specs.declared.line.Line.{Line}
+use Rattle.book.specs.Checks.{ok_body}
+use Rattle.book.proofs.Scans.{from_enumerated}
 use Rattle.book.proofs.checking.ok_from.Goals as goal
 
-pub returns-then-not-ok_body : goal.returns-then-not-ok_body
-returns-then-not-ok_body c = sym (from_more c.args.lines.now c.loop-i.i c.index-lines-i.result _ c.loop-i-test.true c.index-lines-i.is c.if-not-ok_body.ensures) ∙ c.loop-i.invariant
-
-pub loop-i-preserved : goal.loop-i-preserved
-loop-i-preserved c = sym (from_more c.args.lines.now c.loop-i.i c.index-lines-i.result _ c.loop-i-test.true c.index-lines-i.is c.if-not-ok_body.ensures) ∙ c.loop-i.invariant
-
 pub returns : goal.returns
-returns c = sym (at_drop_all (ok_from c.loop-i.i) c.args.lines.now c.loop-i.i c.loop-i-test.false) ∙ c.loop-i.invariant
+returns c =
+    all_from_yields_List (λ (p : ℕ × Line). ok_body p.0 p.1.body) _ _ c.all.result c.all.ensures.ran
+    (YieldsList-from_enumerate (YieldsList-from_slice c.args.lines.now cc) cc) (λ x b q k. search rules)
+    ∙ sym (from_enumerated 0 c.args.lines.now)

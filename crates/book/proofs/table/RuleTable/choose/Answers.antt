@@ -1,17 +1,22 @@
-use Rattle.std.proofs.Common.{◌≡◌, length, get_or, ap, arith, rules}
+use Rattle.std.proofs.Common.{◌≡◌, ◌-◌, length, take, drop, sym, ◌∙◌, rules, arith}
+use Rattle.std.proofs.lemmas.Bool.{and_parts}
+use Rattle.std.proofs.lemmas.List.{take_all, length-drop}
 use Rattle.book.specs.Checks.{ok_from, last_free}
-use Rattle.book.proofs.Scans.{open_free, last_unguarded, and_second}
+use Rattle.book.proofs.Scans.{never_closed, open_applies}
 use Rattle.book.proofs.table.RuleTable.choose.Goals as goal
+
+pub unreachable-requires : goal.unreachable-requires
+unreachable-requires c =
+    let ls = c.args.self.now.lines in
+    let r = c.args.scope.rule in
+    let n : length ls ≡ 64 = search rules in
+    never_closed ls (take (64 - r) (drop r ls)) r c.args.scope.cuboid n c.args.scope.known (and_parts (ok_from 0 ls) (last_free ls) c.args.self.now.checked).1
+    (take_all (64 - r) (drop r ls) (omega (arith, length-drop r ls, n))) (sym c.first_open.ensures ∙ c.in_default.is)
 
 pub returns : goal.returns
 returns c =
     let ls = c.args.self.now.lines in
+    let r = c.args.scope.rule in
     let n : length ls ≡ 64 = search rules in
-    let i = c.loop-i.invariant in
-    record {
-      from = omega arith;
-      there = omega (arith, n);
-      line = ap (λ l. get_or ls 63 l) c.index-self-63.is;
-      holding = open_free c.args.scope.cuboid (get_or ls 63 c.index-self-63.result) (last_unguarded ls 63 c.index-self-63.result n (and_second (ok_from 0 ls) (last_free ls) c.args.self.now.checked));
-      first = λ k d p q. i.2 k d p (omega arith);
-    }
+    open_applies ls (take (64 - r) (drop r ls)) r c.in-Some.k c.args.scope.cuboid c.index-self-i.result
+    (take_all (64 - r) (drop r ls) (omega (arith, length-drop r ls, n))) (sym c.first_open.ensures ∙ c.in-Some.is) c.index-self-i.is
