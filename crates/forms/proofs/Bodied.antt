@@ -104,14 +104,14 @@ pub split_body : (room : ℕ) (before after : List Name) (s t u v : Tokens) (a :
 split_body room before after s t u v a b ps d e h =
     let all : tokens_left s ≡ (axis_at a.value, a.column) ∷ (opening, b.column) ∷ tokens_left u =
     d.is ∙ ap (λ x. (axis_at a.value, a.column) ∷ x) e.is in
-    let same : length (parts_of ps) ≡ length h.past.used = parts_length ps ∙ sym h.past.counted in
+    let same : length (parts_of ps) ≡ length h.past.used = sym h.past.counted in
     let some : 1 ≤ length (part_forms (parts_of ps) h.past.used) =
     omega (arith, forms_length (parts_of ps) h.past.used same, parts_length ps, h.some) in
     record {
       used = h.past.used;
       grown = h.past.grown;
       counted = h.past.counted;
-      few = let f : ps.count ≤ 16 = ps.few in omega (arith, h.past.counted);
+      few = let f : ps.count ≤ 16 = ps.few in omega (arith, h.past.counted, parts_length ps);
       spelled =
           ap (λ x. opening ∷ word (codes "split") ∷ plain x) all
           ∙ (ap (λ x. opening ∷ word (codes "split") ∷ axis_at a.value ∷ x) h.past.spelled
@@ -119,7 +119,7 @@ split_body room before after s t u v a b ps d e h =
       named = λ xs.
           ap (met is_named (axis ∷ parts ∷ xs)) all
           ∙ (axis_named a.value a.column ((opening, b.column) ∷ tokens_left u) (parts ∷ xs) ∙ h.past.named xs);
-      rest = room - ps.count;
+      rest = room - length (parts_of ps);
       passed = λ xs.
           ap (λ x. clean room (axis ∷ parts ∷ xs) (plain x)) all
           ∙ (axis_clean (axis_of a.value) room (opening ∷ plain (tokens_left u)) (parts ∷ xs) ∙ h.past.passed xs);

@@ -1,6 +1,6 @@
 -- Guards one after the other.
-use Rattle.std.proofs.Common.{◌≡◌, ℕ, ◌+◌, ◌-◌, ◌<◌, true, false, cond, List, [], ◌∷◌, ◌++◌, map, length, take, set, is_some, Some, None, codes, decimal, Option, unwrap_or, sym, refl, ap, ◌∙◌, arith, length-set}
-use Rattle.std.proofs.lemmas.List.{map-append, take_more_set}
+use Rattle.std.proofs.Common.{◌≡◌, ℕ, ◌-◌, ◌<◌, true, false, cond, List, [], ◌∷◌, ◌++◌, map, length, is_some, Some, None, codes, decimal, Option, unwrap_or, sym, refl, ap, ◌∙◌, arith}
+use Rattle.std.proofs.lemmas.List.{length-append, map-append}
 use Rattle.std.proofs.lemmas.Bool.{lt-ltb}
 use Rattle.geometry.specs.Limits.{site}
 use Rattle.geometry.specs.declared.axis.Axis.{Axis}
@@ -84,19 +84,18 @@ spell_push (guard a l h ∷ gs) g us =
     ap (λ v. opening ∷ word (codes "when") ∷ word (axis_text a) ∷ number l ∷ number h ∷ closing ∷ v) (spell_push gs g us)
 
 -- one guard more
-pub guards_more : (s t u v : Tokens) (gs : List Guard) (n : ℕ) (g : Guard) → n < guard_limit
-    → GuardsIn s t gs n → ItemTo t u GuardItem → GuardTo u v g → GuardsIn s v (set gs n g) (n + 1)
-guards_more s t u v gs n g l p q r =
+pub guards_more : (s t u v : Tokens) (gs : List Guard) (g : Guard) → length gs < guard_limit
+    → GuardsIn s t gs → ItemTo t u GuardItem → GuardTo u v g → GuardsIn s v (gs ++ g ∷ [])
+guards_more s t u v gs g l p q r =
+    let n : ℕ = length gs in
     let some : 0 < guard_limit - n = omega arith in
-    let less : guard_limit - n - 1 ≡ guard_limit - (n + 1) = omega arith in
-    let wide : n < length gs = omega (arith, p.room) in
+    let less : guard_limit - n - 1 ≡ guard_limit - length (gs ++ g ∷ []) = simp length-append (omega arith) in
     record {
       spelled =
-          p.spelled ∙ (ap (λ w. spell_guards (map guard_of (take n gs)) (plain w)) q.is
-          ∙ (ap (λ w. spell_guards (map guard_of (take n gs)) (opening ∷ word (codes "when") ∷ plain w)) r.is
-          ∙ (spell_push (map guard_of (take n gs)) (guard_of g) (plain (tokens_left v))
-          ∙ ap (λ w. spell_guards w (plain (tokens_left v)))
-          (sym (ap (map guard_of) (take_more_set gs n g wide) ∙ map-append guard_of (take n gs) (g ∷ []))))));
+          p.spelled ∙ (ap (λ w. spell_guards (map guard_of gs) (plain w)) q.is
+          ∙ (ap (λ w. spell_guards (map guard_of gs) (opening ∷ word (codes "when") ∷ plain w)) r.is
+          ∙ (spell_push (map guard_of gs) (guard_of g) (plain (tokens_left v))
+          ∙ ap (λ w. spell_guards w (plain (tokens_left v))) (sym (map-append guard_of gs (g ∷ []))))));
       named = λ xs.
           p.named xs ∙ (ap (met is_named (items (guard_limit - n) ∷ xs)) q.is
           ∙ (when_named (guard_limit - n) q.outer q.inner (tokens_left u) xs some
@@ -108,7 +107,6 @@ guards_more s t u v gs n g l p q r =
           ∙ (when_clean (guard_limit - n) k (plain (tokens_left u)) xs some
           ∙ (guard_passed u v g k (items (guard_limit - n - 1) ∷ xs) r
           ∙ ap (λ m. clean k (items m ∷ xs) (plain (tokens_left v))) less)));
-      few = omega arith;
-      room = length-set gs n g ∙ p.room;
+      few = simp length-append (omega arith);
       kept = r.kept ∙ (q.kept ∙ p.kept);
     }

@@ -1,3 +1,4 @@
+pub mod Pushes
 pub mod Leaves
 pub mod Whole
 pub mod Parted

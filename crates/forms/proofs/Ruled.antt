@@ -1,10 +1,11 @@
 -- Rule lines, as whole lines.
-use Rattle.std.proofs.Common.{◌≡◌, ℕ, ◌+◌, ◌<◌, ◌≤◌, min, false, List, [], ◌∷◌, length, take, Some, None, codes, Option, sym, refl, ap, ◌∙◌, subst, arith}
+use Rattle.std.proofs.Common.{◌≡◌, ℕ, ◌+◌, ◌<◌, ◌≤◌, min, false, List, [], ◌∷◌, length, take, Some, None, codes, Option, Result, sym, refl, ap, ◌∙◌, subst, arith}
 use lib.Seq.{take-length}
 use Rattle.std.proofs.lemmas.List.{take_at}
 use Rattle.std.proofs.lemmas.Bool.{both_ways}
 use Rattle.rows.specs.Parts.{most_parts}
 use Rattle.bounded.specs.Held.{Pushed}
+use Rattle.bounded.specs.declared.full.Full.{Full}
 use Rattle.text.specs.Tokens.{Lexeme, opening, word, tokens_of, tokens_left}
 use Rattle.text.specs.declared.tokens.Tokens.{Tokens}
 use Rattle.grammar.specs.Forms.{guard_limit, plain}
@@ -18,13 +19,15 @@ use Rattle.forms.specs.RuleLines.{ItemsTo, TookRule, RuleIn}
 use Rattle.forms.specs.Taken.{Headed}
 use Rattle.forms.specs.Told.{Name, placed_word}
 use Rattle.forms.specs.declared.rule.RuleLine.{RuleLine}
+use Rattle.std.specs.Result.{result_ok}
+use Rattle.forms.proofs.Pushes.{refused}
 use Rattle.forms.proofs.Cleaned.{rule_clean}
 use Rattle.forms.proofs.Whole.{past_head}
 
 pub no_name_room : (room : ℕ) (names names' uses uses' : List Name) (own : Name) (s t : Tokens) (r : RuleLine) → ItemsTo uses uses' t r
-    → Pushed name_room names own names' false → TookRule room names names' uses uses' s None
-no_name_room room names names' uses uses' own s t r h p =
-    (p.1, record { used = h.used; grown = h.grown }, λ l q. absurd (omega (arith, p.0)))
+    → (x : Result Unit Full) → Pushed name_room names own names' x → None ≡ result_ok x → TookRule room names names' uses uses' s None
+no_name_room room names names' uses uses' own s t r h x d e =
+    let p = refused name_room names own names' x d e in (p.1, record { used = h.used; grown = h.grown }, λ l q. absurd (omega (arith, p.0)))
 
 module _ (n room most : ℕ) (l : List ℕ) (names names' uses uses' : List Name) (s t : Tokens) (all : tokens_left s ≡ tokens_of l) (place : s.line.number ≡ n)
     (small : most ≡ min room most_parts) (h : Headed (codes "rule") s t) where

@@ -1,5 +1,5 @@
 -- Parts one after the other.
-use Rattle.std.proofs.Common.{◌≡◌, ℕ, ◌+◌, ◌-◌, ◌<◌, ◌≤◌, Bool, true, false, ◌&&◌, List, [], ◌∷◌, ◌++◌, map, length, is_some, Some, None, decimal, Option, sym, refl, ap, ◌∙◌, subst, append_assoc, arith, length-append, length-take}
+use Rattle.std.proofs.Common.{◌≡◌, ℕ, ◌+◌, ◌-◌, ◌<◌, ◌≤◌, true, false, ◌&&◌, List, [], ◌∷◌, ◌++◌, map, length, is_some, Some, None, decimal, Option, Ok, Err, Result, sym, refl, ap, ◌∙◌, subst, append_assoc, arith, length-append, length-take}
 use Rattle.std.proofs.lemmas.List.{map-append}
 use Rattle.rows.specs.Parts.{Pushed}
 use Rattle.rows.specs.Rows.{parts_of}
@@ -9,6 +9,8 @@ use Rattle.rows.specs.declared.parts.Parts.{Parts}
 use Rattle.rows.specs.declared.size.Size.{Size}
 use Rattle.rows.specs.declared.size.Size.TheVariants.{Fix, Float}
 use Rattle.bounded.specs.Held.{Pushed as Held}
+use Rattle.bounded.specs.declared.full.Full.{Full}
+use Rattle.std.specs.Result.{result_ok}
 use Rattle.text.specs.Numbers.{number_in}
 use Rattle.text.specs.Tokens.{Lexeme, opening, closing, number, word, tokens_left}
 use Rattle.text.specs.declared.placed.Placed.{Placed}
@@ -28,10 +30,11 @@ use Rattle.forms.specs.declared.words.Bracket.{Bracket}
 use Rattle.forms.specs.declared.words.Bracket.TheVariants.{Open, Close}
 use Rattle.forms.proofs.Cleaned.{any, part_clean}
 
+-- a part that is in range, and its name, were added, or there was no room
 pub added : (l : PartLine) (ps qs : Parts) (us vs : List Name) (p : Part) → p.size ≡ l.size → Pushed ps p qs true
-    → (r : Bool) → Held use_room us l.name vs r → AddedPart l ps qs us vs r
-added l ps qs us vs p e h true d = record { new = p; same = e; parts = h.1; count = h.2; names = d.1 }
-added l ps qs us vs p e h false d = (d.1, λ a b c f. omega (arith, d.0))
+    → (r : Result Unit Full) → Held use_room us l.name vs r → AddedPart l ps qs us vs (result_ok r)
+added l ps qs us vs p e h (Ok u) d = record { new = p; same = e; parts = h.1; names = d.1 }
+added l ps qs us vs p e h (Err f) d = (d.1, λ a b c f. omega (arith, d.0))
 
 -- one part
 
@@ -71,21 +74,22 @@ parts_length ps = length-take ps.count ps.items ∙ (let h : ps.count ≤ length
 
 -- a part more was read
 pub part_past : (room c : ℕ) (before mid after : List Name) (s t u : Tokens) (ps qs : Parts) (l : PartLine)
-    → PartsPast room before mid s ((opening, c) ∷ tokens_left t) ps → t.line ≡ s.line → ps.count < room → PartTo t u l → Added l ps qs mid after
+    → PartsPast room before mid s ((opening, c) ∷ tokens_left t) ps → t.line ≡ s.line → length (parts_of ps) < room → PartTo t u l → Added l ps qs mid after
     → PartsPast room before after s (tokens_left u) qs
 part_past room c before mid after s t u ps qs l p k h r d =
     let z = l.size in
     let n = l.name in
-    let less : room - ps.count - 1 ≡ room - qs.count = omega (arith, d.count) in
-    let some : 0 < room - ps.count = omega arith in
-    let same : length (parts_of ps) ≡ length p.used = parts_length ps ∙ sym p.counted in
+    let count : length (parts_of qs) ≡ length (parts_of ps) + 1 = ap length d.parts ∙ length-append (parts_of ps) (d.new ∷ []) in
+    let less : room - length (parts_of ps) - 1 ≡ room - length (parts_of qs) = omega (arith, count) in
+    let some : 0 < room - length (parts_of ps) = omega arith in
+    let same : length (parts_of ps) ≡ length p.used = sym p.counted in
     let spells : opening ∷ plain (tokens_left t) ≡ spell_part (sized_as z (bytes_of n)) (plain (tokens_left u)) =
     ap (λ v. opening ∷ plain v) r.is ∙ part_spelled z (bytes_of n) (plain (tokens_left u)) in
     record {
       used = p.used ++ n ∷ [];
       grown = d.names ∙ (ap (λ v. v ++ n ∷ []) p.grown ∙ append_assoc before p.used (n ∷ []));
-      counted = length-append p.used (n ∷ []) ∙ (ap (λ v. v + 1) p.counted ∙ sym d.count);
-      fits = omega (arith, d.count);
+      counted = length-append p.used (n ∷ []) ∙ (ap (λ v. v + 1) p.counted ∙ sym count);
+      fits = omega (arith, count);
       spelled =
           p.spelled ∙ (ap (spell_parts (part_forms (parts_of ps) p.used)) spells
           ∙ (spell_push (part_forms (parts_of ps) p.used) (sized_as z (bytes_of n)) (plain (tokens_left u))
@@ -98,8 +102,8 @@ part_past room c before mid after s t u ps qs l p k h r d =
           ∙ (sym (append_assoc (map placed_word p.used) (placed_word n ∷ []) (met is_named (more ∷ xs) (tokens_left u)))
           ∙ ap (λ v. v ++ met is_named (more ∷ xs) (tokens_left u)) (sym (map-append placed_word p.used (n ∷ []))))));
       passed = λ xs.
-          p.passed xs ∙ (ap (λ v. clean (room - ps.count) (more ∷ xs) v) spells
-          ∙ (part_clean (sized_as z (bytes_of n)) (room - ps.count) (plain (tokens_left u)) xs some (good_part z (bytes_of n) r.within)
+          p.passed xs ∙ (ap (λ v. clean (room - length (parts_of ps)) (more ∷ xs) v) spells
+          ∙ (part_clean (sized_as z (bytes_of n)) (room - length (parts_of ps)) (plain (tokens_left u)) xs some (good_part z (bytes_of n) r.within)
           ∙ ap (λ v. clean v (more ∷ xs) (plain (tokens_left u))) less));
       placed = placed_push s.line.number p.used n p.placed (r.line ∙ ap (λ v. v.number) k);
     }
@@ -117,7 +121,7 @@ parts_on room before after s u v ps b p k r o = record {
 }
 
 pub parts_end : (room : ℕ) (before after : List Name) (s u v : Tokens) (ps : Parts) (b : Placed Bracket)
-    → PartsPast room before after s (tokens_left u) ps → 1 ≤ ps.count → u.line ≡ s.line → Took bracket_at u v b → b.value ≡ Close
+    → PartsPast room before after s (tokens_left u) ps → 1 ≤ length (parts_of ps) → u.line ≡ s.line → Took bracket_at u v b → b.value ≡ Close
     → PartsTo room before after s v ps
 parts_end room before after s u v ps b p h k r o = record {
   column = b.column;
@@ -141,15 +145,15 @@ module _ (room : ℕ) (before mid : List Name) (s t : Tokens) (ps : Parts) (p : 
   grew : Grew before mid
   grew = record { used = p.past.used; grown = p.past.grown }
 
-  pub too_many_lem : (v : Tokens) → room ≤ ps.count → TookParts room before mid s v None
+  pub too_many_lem : (v : Tokens) → room ≤ length (parts_of ps) → TookParts room before mid s v None
   too_many_lem v h =
-      let z : room - ps.count ≡ 0 = omega arith in (
+      let z : room - length (parts_of ps) ≡ 0 = omega arith in (
         grew,
         λ r xs.
             p.past.passed xs ∙ (ap (λ k. clean k (part ∷ more ∷ xs) (plain (tokens_left t))) z ∙ none_left (plain (tokens_left t)) (more ∷ xs)),
       )
 
-  pub not_added : (u v : Tokens) (after : List Name) (qs : Parts) (l : PartLine) → ps.count < room → PartTo t u l → AddedPart l ps qs mid after false
+  pub not_added : (u v : Tokens) (after : List Name) (qs : Parts) (l : PartLine) → length (parts_of ps) < room → PartTo t u l → AddedPart l ps qs mid after None
       → TookParts room before after s v None
   not_added u v after qs l h r d =
       let n : length mid ≡ length before + length p.past.used = ap length p.past.grown ∙ length-append before p.past.used in (
@@ -161,4 +165,4 @@ module _ (room : ℕ) (before mid : List Name) (s t : Tokens) (ps : Parts) (p : 
 pub no_more : (room : ℕ) (before after : List Name) (s u v : Tokens) (ps : Parts) → PartsPast room before after s (tokens_left u) ps
     → Dead more (tokens_left u) → TookParts room before after s v None
 no_more room before after s u v ps p d =
-    (record { used = p.used; grown = p.grown }, λ r xs. p.passed xs ∙ d (room - ps.count) xs)
+    (record { used = p.used; grown = p.grown }, λ r xs. p.passed xs ∙ d (room - length (parts_of ps)) xs)

@@ -1,6 +1,7 @@
 -- The guards of a rule line, as they are taken up to the word that begins its body.
-use Rattle.std.specs.Prelude.{◌≡◌, ℕ, ◌-◌, ◌≤◌, false, List, [], ◌∷◌, ◌++◌, map, length, take, Some, None, codes, decimal, Option}
+use Rattle.std.specs.Prelude.{◌≡◌, ℕ, ◌-◌, ◌≤◌, false, List, [], ◌∷◌, ◌++◌, map, length, Some, None, codes, decimal, Option}
 use Rattle.geometry.specs.Limits.{site}
+use Rattle.bounded.specs.Listed.{listed}
 use Rattle.book.specs.declared.guard.Guard.{Guard}
 use Rattle.text.specs.Numbers.{number_in}
 use Rattle.text.specs.Tokens.{opening, closing, word, tokens_left}
@@ -72,22 +73,21 @@ abbrev pub TookItem : Tokens → Tokens → Option Item → Type 0
 TookItem s t (Some i) = ItemTo s t i
 TookItem s t None = (k : ℕ) → Dead (items k) (tokens_left s)
 
--- n guards were read from s on, those of t are left
-pub record GuardsIn (s t : Tokens) (gs : List Guard) (n : ℕ) : Type 0 where
-  pub spelled : plain (tokens_left s) ≡ spell_guards (map guard_of (take n gs)) (plain (tokens_left t))
-  pub named : (xs : List Want) → met is_named (items guard_limit ∷ xs) (tokens_left s) ≡ met is_named (items (guard_limit - n) ∷ xs) (tokens_left t)
+-- guards were read from s on, those of t are left
+pub record GuardsIn (s t : Tokens) (gs : List Guard) : Type 0 where
+  pub spelled : plain (tokens_left s) ≡ spell_guards (map guard_of gs) (plain (tokens_left t))
+  pub named : (xs : List Want) → met is_named (items guard_limit ∷ xs) (tokens_left s) ≡ met is_named (items (guard_limit - length gs) ∷ xs) (tokens_left t)
   pub passed :
       (k : ℕ) (xs : List Want)
-      → clean k (items guard_limit ∷ xs) (plain (tokens_left s)) ≡ clean k (items (guard_limit - n) ∷ xs) (plain (tokens_left t))
-  pub few : n ≤ guard_limit
-  pub room : length gs ≡ guard_limit
+      → clean k (items guard_limit ∷ xs) (plain (tokens_left s)) ≡ clean k (items (guard_limit - length gs) ∷ xs) (plain (tokens_left t))
+  pub few : length gs ≤ guard_limit
   pub kept : t.line ≡ s.line
 
 -- all guards were read, and the bracket and the first word of the body
 pub record GuardsTo (s t : Tokens) (f : Front) : Type 0 where
   pub spelled :
       plain (tokens_left s)
-      ≡ spell_guards (map guard_of (take f.guarded f.guards)) (opening ∷ word (head_text f.head) ∷ plain (tokens_left t))
+      ≡ spell_guards (map guard_of (listed f.guards)) (opening ∷ word (head_text f.head) ∷ plain (tokens_left t))
   pub named : (xs : List Want) → met is_named (items guard_limit ∷ xs) (tokens_left s) ≡ met is_named (body_wants f.head ++ xs) (tokens_left t)
   pub passed :
       (k : ℕ) (xs : List Want)

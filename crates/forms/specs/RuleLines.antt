@@ -18,7 +18,6 @@ use Rattle.forms.specs.declared.shape.Shape.{Shape}
 -- a rule line of these guards and this body
 pub record Joins (f : Front) (b : Shape) (from : ℕ) (r : RuleLine) : Type 0 where
   pub guards : r.guards ≡ f.guards
-  pub guarded : r.guarded ≡ f.guarded
   pub body : r.body ≡ b
   pub start : r.from ≡ from
 

@@ -1,5 +1,5 @@
 -- The parts of a split, as they are taken.
-use Rattle.std.specs.Prelude.{◌≡◌, ℕ, ◌+◌, ◌-◌, ◌<◌, ◌≤◌, Bool, true, false, List, [], ◌∷◌, ◌++◌, map, length, Some, None, Option}
+use Rattle.std.specs.Prelude.{◌≡◌, ℕ, ◌+◌, ◌-◌, ◌<◌, ◌≤◌, false, List, [], ◌∷◌, ◌++◌, map, length, Some, None, Option}
 use Rattle.rows.specs.Parts.{most_parts}
 use Rattle.rows.specs.Rows.{parts_of}
 use Rattle.rows.specs.Sizes.{amount, lowest, highest}
@@ -34,15 +34,14 @@ pub record Added (p : PartLine) (ps qs : Parts) (us vs : List Name) : Type 0 whe
   pub new : Part
   pub same : new.size ≡ p.size
   pub parts : parts_of qs ≡ parts_of ps ++ new ∷ []
-  pub count : qs.count ≡ ps.count + 1
   pub names : vs ≡ us ++ p.name ∷ []
 
 -- the same; or no name is added, and the part is out of range or there is no room
-abbrev pub AddedPart : PartLine → Parts → Parts → List Name → List Name → Bool → Type 0
-AddedPart p ps qs us vs true = Added p ps qs us vs
-AddedPart p ps qs us vs false =
+abbrev pub AddedPart : PartLine → Parts → Parts → List Name → List Name → Option (Unit {0}) → Type 0
+AddedPart p ps qs us vs (Some u) = Added p ps qs us vs
+AddedPart p ps qs us vs None =
     (vs ≡ us)
-    × (lowest p.size ≤ amount p.size → amount p.size ≤ highest p.size → ps.count < most_parts → length us < use_room → ⊥)
+    × (lowest p.size ≤ amount p.size → amount p.size ≤ highest p.size → length (parts_of ps) < most_parts → length us < use_room → ⊥)
 
 -- names stand at the end of those before
 pub record Grew (before after : List Name) : Type 0 where
@@ -53,11 +52,11 @@ pub record Grew (before after : List Name) : Type 0 where
 pub record PartsPast (room : ℕ) (before after : List Name) (s : Tokens) (us : List (Lexeme × ℕ)) (ps : Parts) : Type 0 where
   pub used : List Name
   pub grown : after ≡ before ++ used
-  pub counted : length used ≡ ps.count
-  pub fits : ps.count ≤ room
+  pub counted : length used ≡ length (parts_of ps)
+  pub fits : length (parts_of ps) ≤ room
   pub spelled : opening ∷ plain (tokens_left s) ≡ spell_parts (part_forms (parts_of ps) used) (plain us)
   pub named : (xs : List Want) → met is_named (part ∷ more ∷ xs) (tokens_left s) ≡ map placed_word used ++ met is_named (more ∷ xs) us
-  pub passed : (xs : List Want) → clean room (part ∷ more ∷ xs) (plain (tokens_left s)) ≡ clean (room - ps.count) (more ∷ xs) (plain us)
+  pub passed : (xs : List Want) → clean room (part ∷ more ∷ xs) (plain (tokens_left s)) ≡ clean (room - length (parts_of ps)) (more ∷ xs) (plain us)
   pub placed : InLine s.line.number used
 
 -- the same, and the bracket of the next part was read
@@ -70,7 +69,7 @@ pub record PartsIn (room : ℕ) (before after : List Name) (s t : Tokens) (ps : 
 pub record PartsTo (room : ℕ) (before after : List Name) (s t : Tokens) (ps : Parts) : Type 0 where
   pub column : ℕ
   pub past : PartsPast room before after s ((closing, column) ∷ tokens_left t) ps
-  pub some : 1 ≤ ps.count
+  pub some : 1 ≤ length (parts_of ps)
   pub kept : t.line ≡ s.line
 
 -- there is room for the names of every line with so many parts

@@ -2,6 +2,7 @@
 use Rattle.std.specs.Prelude.{◌≡◌, ℕ, ◌-◌, ◌≤◌, false, List, [], ◌∷◌, Some, None, decimal, Option, ◌≢◌}
 use Rattle.geometry.specs.Limits.{site, least}
 use Rattle.geometry.specs.declared.axis.Axis.{Axis}
+use Rattle.geometry.specs.declared.triple.Triple.{Triple}
 use Rattle.text.specs.Numbers.{number_in}
 use Rattle.text.specs.Takes.{open_at, close_at, word_at}
 use Rattle.text.specs.Tokens.{Lexeme, opening, closing, number, word, tokens_left}
@@ -15,7 +16,6 @@ use Rattle.grammar.specs.declared.state.Naming.TheVariants.{Declared, Rule}
 use Rattle.forms.specs.Clean.{clean, Dead}
 use Rattle.forms.specs.Told.{Name, axis_of, placed_word}
 use Rattle.forms.specs.declared.lot.LotLine.{LotLine}
-use Rattle.forms.specs.declared.triple.Triple.{Triple}
 
 -- the first token of s stands at the place, and those of t are left
 pub record Took {X : Type 0} (kind : X → Lexeme) (s t : Tokens) (p : Placed X) : Type 0 where
@@ -129,15 +129,15 @@ lot_wants = corner ∷ corner ∷ corner ∷ size ∷ size ∷ size ∷ name Rul
 
 -- the numbers of a lot lie in their ranges
 pub record LotRanged (l : LotLine) : Type 0 where
-  pub corner_x : l.px.0 ≤ site - 1
-  pub corner_y : l.py.0 ≤ site - 1
-  pub corner_z : l.pz.0 ≤ site - 1
-  pub low_x : least ≤ l.sx.0
-  pub low_y : least ≤ l.sy.0
-  pub low_z : least ≤ l.sz.0
-  pub high_x : l.sx.0 ≤ site
-  pub high_y : l.sy.0 ≤ site
-  pub high_z : l.sz.0 ≤ site
+  pub corner_x : l.corner.x.0 ≤ site - 1
+  pub corner_y : l.corner.y.0 ≤ site - 1
+  pub corner_z : l.corner.z.0 ≤ site - 1
+  pub low_x : least ≤ l.size.x.0
+  pub low_y : least ≤ l.size.y.0
+  pub low_z : least ≤ l.size.z.0
+  pub high_x : l.size.x.0 ≤ site
+  pub high_y : l.size.y.0 ≤ site
+  pub high_z : l.size.z.0 ≤ site
 
 -- a lot after its first word, up to the end of the line
 pub record LotTo (s : Tokens) (l : LotLine) : Type 0 where
@@ -150,8 +150,8 @@ pub record LotTo (s : Tokens) (l : LotLine) : Type 0 where
   pub end : ℕ
   pub is :
       tokens_left s
-      ≡ (decimal_at l.px.0, in_px) ∷ (decimal_at l.py.0, in_py) ∷ (decimal_at l.pz.0, in_pz)
-      ∷ (decimal_at l.sx.0, in_sx) ∷ (decimal_at l.sy.0, in_sy) ∷ (decimal_at l.sz.0, in_sz)
+      ≡ (decimal_at l.corner.x.0, in_px) ∷ (decimal_at l.corner.y.0, in_py) ∷ (decimal_at l.corner.z.0, in_pz)
+      ∷ (decimal_at l.size.x.0, in_sx) ∷ (decimal_at l.size.y.0, in_sy) ∷ (decimal_at l.size.z.0, in_sz)
       ∷ placed_word l.name ∷ (closing, end) ∷ []
   pub line : l.name.line ≡ s.line.number
   pub ranged : LotRanged l

@@ -1,5 +1,5 @@
 -- What the structs of the code say, as forms of the grammar.
-use Rattle.std.specs.Prelude.{ℕ, List, [], ◌∷◌, map, take, drop, decimal}
+use Rattle.std.specs.Prelude.{ℕ, List, [], ◌∷◌, map, length, take, drop, decimal}
 use Rattle.std.specs.Borrow.{Bor}
 use Rattle.geometry.specs.declared.axis.Axis.{Axis}
 use Rattle.geometry.specs.declared.axis.Axis.TheVariants.{X, Y, Z}
@@ -9,6 +9,7 @@ use Rattle.rows.specs.declared.size.Size.{Size}
 use Rattle.rows.specs.declared.size.Size.TheVariants.{Fix, Float}
 use Rattle.text.specs.Tokens.{Lexeme, word}
 use Rattle.text.specs.declared.placed.Placed.{Placed}
+use Rattle.bounded.specs.Listed.{listed}
 use Rattle.book.specs.declared.guard.Guard.{Guard}
 use Rattle.grammar.specs.Forms.{Form, x_axis, y_axis, z_axis, guard, fix, float, make, refer, tile, split, rule, lot}
 use Rattle.grammar.specs.Forms.{Axis as AxisWord, Guard as GuardForm, Part as PartForm, Body as BodyForm}
@@ -41,7 +42,7 @@ guard_of g = guard (axis_of g.axis) (decimal g.low.0) (decimal g.high.0)
 
 -- the guards of a rule line
 abbrev pub guards_of : RuleLine → List Guard
-guards_of r = take r.guarded r.guards
+guards_of r = listed r.guards
 
 -- a length or a weight, with a name
 abbrev pub sized_as : Size → List ℕ → PartForm
@@ -76,7 +77,7 @@ abbrev pub uses_of : Shape → ℕ
 uses_of Make = 1
 uses_of Use = 1
 uses_of (Repeat a t) = 1
-uses_of (Split a p) = p.count
+uses_of (Split a p) = length (parts_of p)
 
 -- the names that a rule line uses, in the book's list of used names
 abbrev pub used_by : List Name → RuleLine → List Name
@@ -89,5 +90,5 @@ rule_of n r ns = rule (bytes_of n) (map guard_of (guards_of r)) (body_of r.body 
 -- a lot
 abbrev pub lot_of : LotLine → Form
 lot_of l =
-    lot (decimal l.px.0) (decimal l.py.0) (decimal l.pz.0) (decimal l.sx.0) (decimal l.sy.0) (decimal l.sz.0)
+    lot (decimal l.corner.x.0) (decimal l.corner.y.0) (decimal l.corner.z.0) (decimal l.size.x.0) (decimal l.size.y.0) (decimal l.size.z.0)
     (bytes_of l.name)

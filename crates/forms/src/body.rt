@@ -1,14 +1,13 @@
 // The body of a rule line after its first word; the names that it uses are added to a list.
 ghost use Rattle.std.specs.Prelude.{ℕ};
-ghost use Rattle.bounded.specs.Held.{held_in};
 ghost use Rattle.forms.specs.Bodies.{TookUse, TookBody};
 ghost use Rattle.forms.specs.declared.words.Head.TheVariants.{Repeat, Split};
 
+use crate::lists::Uses;
 use crate::shape::Shape;
 use crate::split::read_parts;
 use crate::tokens::{expect_axis, expect_last_name, expect_number, expect_open};
 use crate::words::Head;
-use bounded::bounded::BoundedVec;
 use geometry::limits::{LEAST, SITE};
 use geometry::units::Mm;
 use rows::tile::Tile;
@@ -16,22 +15,16 @@ use text::placed::Placed;
 use text::tokens::Tokens;
 
 // The name that ends a body, and its bracket.
-fn read_use<'a>(
-    tokens: &mut Tokens<'a>,
-    uses: &mut BoundedVec<Placed<&'a [u8]>, 1024>,
-) -> Option<()>
-    ensures { TookUse (held_in uses.old) (held_in uses.new) tokens.old tokens.new result }
+fn read_use<'a>(tokens: &mut Tokens<'a>, uses: &mut Uses<'a>) -> Option<()>
+    ensures { TookUse uses.old uses.new tokens.old tokens.new result }
 {
     let name = expect_last_name(tokens)?;
-    if uses.push(name) { Some(()) } else { None }
+    uses.push(name).ok()
 }
 
 // A repeat after its first word.
-fn read_repeat<'a>(
-    tokens: &mut Tokens<'a>,
-    uses: &mut BoundedVec<Placed<&'a [u8]>, 1024>,
-) -> Option<Shape>
-    ensures { (room : ℕ) → TookBody Repeat room (held_in uses.old) (held_in uses.new) tokens.old tokens.new result }
+fn read_repeat<'a>(tokens: &mut Tokens<'a>, uses: &mut Uses<'a>) -> Option<Shape>
+    ensures { (room : ℕ) → TookBody Repeat room uses.old uses.new tokens.old tokens.new result }
 {
     let axis = expect_axis(tokens)?;
     let length = expect_number(tokens, LEAST, SITE)?;
@@ -41,12 +34,8 @@ fn read_repeat<'a>(
 }
 
 // A split of at most `room` parts after its first word.
-fn read_split<'a>(
-    room: usize,
-    tokens: &mut Tokens<'a>,
-    uses: &mut BoundedVec<Placed<&'a [u8]>, 1024>,
-) -> Option<Shape>
-    ensures { TookBody Split room (held_in uses.old) (held_in uses.new) tokens.old tokens.new result }
+fn read_split<'a>(room: usize, tokens: &mut Tokens<'a>, uses: &mut Uses<'a>) -> Option<Shape>
+    ensures { TookBody Split room uses.old uses.new tokens.old tokens.new result }
 {
     let axis = expect_axis(tokens)?;
     expect_open(tokens)?;
@@ -59,9 +48,9 @@ pub(crate) fn read_body<'a>(
     head: Head,
     room: usize,
     tokens: &mut Tokens<'a>,
-    uses: &mut BoundedVec<Placed<&'a [u8]>, 1024>,
+    uses: &mut Uses<'a>,
 ) -> Option<Shape>
-    ensures { TookBody head room (held_in uses.old) (held_in uses.new) tokens.old tokens.new result }
+    ensures { TookBody head room uses.old uses.new tokens.old tokens.new result }
 {
     match head {
         Head::Make => {

@@ -5,32 +5,24 @@ use crate::front::Front;
 use crate::tokens::{expect_axis, expect_close, expect_number};
 use crate::words::{Head, Item};
 use book::guard::Guard;
+use bounded::inline::InlineVec;
 use geometry::axis::Axis;
 use geometry::limits::SITE;
 use geometry::units::Mm;
 use text::takes::{take_open, take_word};
 use text::tokens::Tokens;
-use text::words::same;
-
-// The most guards of a rule line.
-const GUARD_LIMIT: usize = 3;
 
 // What a word begins.
 fn item_of(word: &[u8]) -> Option<Item>
     ensures { ItemIn word.now result }
 {
-    if same(word, b"when") {
-        Some(Item::Guard)
-    } else if same(word, b"make") {
-        Some(Item::Body(Head::Make))
-    } else if same(word, b"use") {
-        Some(Item::Body(Head::Use))
-    } else if same(word, b"repeat") {
-        Some(Item::Body(Head::Repeat))
-    } else if same(word, b"split") {
-        Some(Item::Body(Head::Split))
-    } else {
-        None
+    match word {
+        b"when" => Some(Item::Guard),
+        b"make" => Some(Item::Body(Head::Make)),
+        b"use" => Some(Item::Body(Head::Use)),
+        b"repeat" => Some(Item::Body(Head::Repeat)),
+        b"split" => Some(Item::Body(Head::Split)),
+        _ => None,
     }
 }
 
@@ -62,32 +54,15 @@ fn read_guard(tokens: &mut Tokens) -> Option<Guard>
 pub(crate) fn read_guards(tokens: &mut Tokens) -> Option<Front>
     ensures { TookGuards tokens.old tokens.new result }
 {
-    let mut guards = [Guard {
+    let mut guards = InlineVec::new(Guard {
         axis: Axis::X,
         low: Mm(1),
         high: Mm(1),
-    }; 3];
-    let mut guarded = 0;
+    });
     loop {
-        match expect_item(tokens) {
-            Some(Item::Guard) => {
-                if guarded >= GUARD_LIMIT {
-                    return None;
-                }
-                match read_guard(tokens) {
-                    Some(guard) => guards[guarded] = guard,
-                    None => return None,
-                }
-                guarded += 1;
-            }
-            Some(Item::Body(head)) => {
-                return Some(Front {
-                    guards,
-                    guarded,
-                    head,
-                });
-            }
-            None => return None,
+        match expect_item(tokens)? {
+            Item::Guard => guards.push(read_guard(tokens)?).ok()?,
+            Item::Body(head) => return Some(Front { guards, head }),
         }
     }
 }

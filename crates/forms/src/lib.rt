@@ -4,6 +4,7 @@
 mod body;
 mod front;
 mod guards;
+pub mod lists;
 pub mod lot;
 pub mod lots;
 pub mod material;
@@ -13,5 +14,4 @@ pub mod rules;
 pub mod shape;
 mod split;
 mod tokens;
-mod triple;
 mod words;

@@ -16,15 +16,7 @@ fn rest_of_lot<'a>(tokens: &mut Tokens<'a>) -> Option<LotLine<'a>>
     let size = expect_triple(tokens, LEAST, SITE)?;
     let name = expect_last_name(tokens)?;
     expect_end(tokens)?;
-    Some(LotLine {
-        px: corner.x,
-        py: corner.y,
-        pz: corner.z,
-        sx: size.x,
-        sy: size.y,
-        sz: size.z,
-        name,
-    })
+    Some(LotLine { corner, size, name })
 }
 
 // What a line of the lot file says; None where it is no lot with good numbers.

@@ -11,7 +11,6 @@ use rows::size::Size;
 use text::placed::Placed;
 use text::takes::take_word;
 use text::tokens::Tokens;
-use text::words::same;
 
 // What a part asks for, and the rule that it goes on with.
 #[derive(Clone, Copy)]
@@ -24,12 +23,10 @@ pub(crate) struct PartLine<'a> {
 fn kind_of(word: &[u8]) -> Option<Kind>
     ensures { KindIn word.now result }
 {
-    if same(word, b"fix") {
-        Some(Kind::Fix)
-    } else if same(word, b"float") {
-        Some(Kind::Float)
-    } else {
-        None
+    match word {
+        b"fix" => Some(Kind::Fix),
+        b"float" => Some(Kind::Float),
+        _ => None,
     }
 }
 

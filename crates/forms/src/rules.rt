@@ -1,41 +1,32 @@
 // A rule line read from its line of the file.
-ghost use Rattle.bounded.specs.Held.{held_in};
 ghost use Rattle.forms.specs.Reads.{RuleLineRead};
 ghost use Rattle.forms.specs.RuleLines.{Joins, TookItems, TookRule, RuleIn};
 
 use crate::body::read_body;
 use crate::front::Front;
 use crate::guards::read_guards;
+use crate::lists::{RuleNames, Uses};
 use crate::rule::RuleLine;
 use crate::shape::Shape;
 use crate::tokens::{expect_close, expect_end, expect_head, expect_name};
-use bounded::bounded::BoundedVec;
+use rows::making::MOST_PARTS;
 use text::lines::Line;
 use text::placed::Placed;
 use text::tokens::Tokens;
 
-// The most parts of a split.
-const MOST_PARTS: usize = 16;
-
 fn rule_line(front: Front, body: Shape, from: usize) -> RuleLine
     ensures { Joins front body from result }
 {
-    let guards = front.guards;
     RuleLine {
-        guards,
-        guarded: front.guarded,
+        guards: front.guards,
         body,
         from,
     }
 }
 
 // The guards and the body of a rule line, up to the end of the line.
-fn read_items<'a>(
-    room: usize,
-    tokens: &mut Tokens<'a>,
-    uses: &mut BoundedVec<Placed<&'a [u8]>, 1024>,
-) -> Option<RuleLine>
-    ensures { TookItems room (held_in uses.old) (held_in uses.new) tokens.old result }
+fn read_items<'a>(room: usize, tokens: &mut Tokens<'a>, uses: &mut Uses<'a>) -> Option<RuleLine>
+    ensures { TookItems room uses.old uses.new tokens.old result }
 {
     let front = read_guards(tokens)?;
     let from = uses.len();
@@ -49,24 +40,25 @@ fn read_items<'a>(
 fn rest_of_rule<'a>(
     room: usize,
     tokens: &mut Tokens<'a>,
-    names: &mut BoundedVec<Placed<&'a [u8]>, 64>,
-    uses: &mut BoundedVec<Placed<&'a [u8]>, 1024>,
+    names: &mut RuleNames<'a>,
+    uses: &mut Uses<'a>,
 ) -> Option<RuleLine>
-    ensures { TookRule room (held_in names.old) (held_in names.new) (held_in uses.old) (held_in uses.new) tokens.old result }
+    ensures { TookRule room names.old names.new uses.old uses.new tokens.old result }
 {
     let own = expect_name(tokens)?;
     let line = read_items(room, tokens, uses)?;
-    if names.push(own) { Some(line) } else { None }
+    names.push(own).ok()?;
+    Some(line)
 }
 
 // A rule line; where there is none, names may be left at the end of `uses`.
 fn rule_in<'a>(
     line: Line<'a>,
     room: usize,
-    names: &mut BoundedVec<Placed<&'a [u8]>, 64>,
-    uses: &mut BoundedVec<Placed<&'a [u8]>, 1024>,
+    names: &mut RuleNames<'a>,
+    uses: &mut Uses<'a>,
 ) -> Option<RuleLine>
-    ensures { RuleIn line.entry.number line.entry.bytes.now room (held_in names.old) (held_in names.new) (held_in uses.old) (held_in uses.new) result }
+    ensures { RuleIn line.entry.number line.entry.bytes.now room names.old names.new uses.old uses.new result }
 {
     let mut tokens = Tokens::of(line);
     expect_head(&mut tokens, b"rule")?;
@@ -78,17 +70,15 @@ fn rule_in<'a>(
 pub fn read_rule<'a>(
     line: Line<'a>,
     room: usize,
-    names: &mut BoundedVec<Placed<&'a [u8]>, 64>,
-    uses: &mut BoundedVec<Placed<&'a [u8]>, 1024>,
+    names: &mut RuleNames<'a>,
+    uses: &mut Uses<'a>,
 ) -> Option<RuleLine>
-    ensures { RuleLineRead line.entry.number line.entry.bytes.now room (held_in names.old) (held_in names.new) (held_in uses.old) (held_in uses.new) result }
+    ensures { RuleLineRead line.entry.number line.entry.bytes.now room names.old names.new uses.old uses.new result }
 {
     let from = uses.len();
-    match rule_in(line, room, names, uses) {
-        Some(read) => Some(read),
-        None => {
-            uses.truncate(from);
-            None
-        }
+    let read = rule_in(line, room, names, uses);
+    if read.is_none() {
+        uses.truncate(from);
     }
+    read
 }

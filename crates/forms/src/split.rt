@@ -1,10 +1,9 @@
 // The parts of a split.
-ghost use Rattle.bounded.specs.Held.{held_in};
 ghost use Rattle.forms.specs.Splits.{TookMore, AddedPart, TookParts};
 
+use crate::lists::Uses;
 use crate::part::{PartLine, read_part};
 use crate::words::Bracket;
-use bounded::bounded::BoundedVec;
 use rows::part::Part;
 use rows::parts::Parts;
 use text::placed::Placed;
@@ -14,58 +13,43 @@ use text::tokens::{Token, Tokens};
 fn expect_more(tokens: &mut Tokens) -> Option<Placed<Bracket>>
     ensures { TookMore tokens.old tokens.new result }
 {
-    match tokens.next() {
-        Some(t) => match t.value {
-            Token::Open => Some(t.with(Bracket::Open)),
-            Token::Close => Some(t.with(Bracket::Close)),
-            Token::Number(_) | Token::Word(_) => None,
-        },
-        None => None,
+    let token = tokens.next()?;
+    match token.value {
+        Token::Open => Some(token.with(Bracket::Open)),
+        Token::Close => Some(token.with(Bracket::Close)),
+        Token::Number(_) | Token::Word(_) => None,
     }
 }
 
-// One part more, and its name; false, and no name more, where there is no room.
-fn add_part<'a>(
-    line: PartLine<'a>,
-    parts: &mut Parts,
-    uses: &mut BoundedVec<Placed<&'a [u8]>, 1024>,
-) -> bool
-    ensures { AddedPart line.entry parts.old parts.new (held_in uses.old) (held_in uses.new) result }
+// One part more, and its name; None, and no name more, where there is no room.
+fn add_part<'a>(line: PartLine<'a>, parts: &mut Parts, uses: &mut Uses<'a>) -> Option<()>
+    ensures { AddedPart line.entry parts.old parts.new uses.old uses.new result }
 {
-    let Some(part) = Part::new(line.size) else {
-        return false;
-    };
+    let part = Part::new(line.size)?;
     if !parts.push(part) {
-        return false;
+        return None;
     }
-    uses.push(line.name)
+    uses.push(line.name).ok()
 }
 
 // The parts of a split, the bracket of the first just read, up to the bracket that ends the split: at most `room`.
 pub(crate) fn read_parts<'a>(
     room: usize,
     tokens: &mut Tokens<'a>,
-    uses: &mut BoundedVec<Placed<&'a [u8]>, 1024>,
+    uses: &mut Uses<'a>,
 ) -> Option<Parts>
-    ensures { TookParts room (held_in uses.old) (held_in uses.new) tokens.old tokens.new result }
+    ensures { TookParts room uses.old uses.new tokens.old tokens.new result }
 {
     let mut parts = Parts::new();
     loop {
         if parts.len() >= room {
             return None;
         }
-        let Some(line) = read_part(tokens) else {
-            return None;
-        };
-        if !add_part(line, &mut parts, uses) {
-            return None;
-        }
-        match expect_more(tokens) {
-            Some(b) => match b.value {
-                Bracket::Open => {}
-                Bracket::Close => return Some(parts),
-            },
-            None => return None,
+        let line = read_part(tokens)?;
+        add_part(line, &mut parts, uses)?;
+        match expect_more(tokens)?.value {
+            Bracket::Open => {}
+            Bracket::Close => return Some(parts),
         }
     }
 }

@@ -1,8 +1,8 @@
 // Tokens of a line as a form wants them, taken one after the other.
 ghost use Rattle.forms.specs.Taken.{TookOpen, TookClose, TookName, TookNumber, AxisIn, TookAxis, TookHead, TookEnd, TookLastName, TookTriple};
 
-use crate::triple::Triple;
 use geometry::axis::Axis;
+use geometry::triple::Triple;
 use geometry::units::Mm;
 use text::numbers::number_in;
 use text::placed::Placed;
@@ -43,14 +43,11 @@ pub(crate) fn expect_number(tokens: &mut Tokens, low: u32, high: u32) -> Option<
 fn axis_of(word: &[u8]) -> Option<Axis>
     ensures { AxisIn word.now result }
 {
-    if same(word, b"x") {
-        Some(Axis::X)
-    } else if same(word, b"y") {
-        Some(Axis::Y)
-    } else if same(word, b"z") {
-        Some(Axis::Z)
-    } else {
-        None
+    match word {
+        b"x" => Some(Axis::X),
+        b"y" => Some(Axis::Y),
+        b"z" => Some(Axis::Z),
+        _ => None,
     }
 }
 

@@ -1,0 +1,4 @@
+// Files that are read line by line.
+#![tactic(auto)]
+
+pub mod files;

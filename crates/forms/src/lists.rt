@@ -1,0 +1,9 @@
+// Lists of the names of a rule file, with their places.
+use bounded::bounded::BoundedVec;
+use text::placed::Placed;
+
+// The names of the rule lines.
+pub type RuleNames<'a> = BoundedVec<Placed<&'a [u8]>, 64>;
+
+// The names that the bodies of the rule lines use.
+pub type Uses<'a> = BoundedVec<Placed<&'a [u8]>, 1024>;
