@@ -1,35 +1,41 @@
 -- What the row of a split needs of its parts.
-use Rattle.std.proofs.Common.{◌≡◌, ℕ, zero, suc, ◌+◌, ◌-◌, ◌<◌, ◌≤◌, false, cond, ◌&&◌, eqb, ltb, ◌⊎◌, List, [], ◌∷◌, ◌++◌, length, take, set, Err, sym, refl, ap, ◌∙◌, subst, ⊎_elim, arith}
-use Rattle.std.proofs.lemmas.List.{take_more_set, map_push, append_assoc}
+use Rattle.std.proofs.Common.{◌≡◌, ℕ, zero, suc, ◌+◌, ◌-◌, ◌<◌, ◌≤◌, false, Ok, cond, ◌&&◌, eqb, ltb, ◌⊎◌, List, [], ◌∷◌, ◌++◌, length, Err, sym, refl, ap, ◌∙◌, subst, ⊎_elim, arith, length-append}
+use Rattle.std.proofs.lemmas.List.{map_push, append_assoc, append-nil}
 use Rattle.std.proofs.lemmas.Bool.{cond-true, cond-false, lt-ltb, le-ltb, ne_eqb, and_left, and_right}
+use Rattle.bounded.proofs.Listed.{listed_few}
 use Rattle.geometry.specs.declared.units.Mm.{Mm}
 use Rattle.geometry.specs.declared.units.Weight.{Weight}
+use Rattle.geometry.specs.Limits.{least}
 use Rattle.geometry.proofs.Totals.{total_part}
 use Rattle.rows.specs.declared.size.Size.{Size}
 use Rattle.rows.specs.declared.size.Size.TheVariants.{Fix, Float}
 use Rattle.rows.specs.declared.part.Part.{Part}
+use Rattle.rows.specs.declared.parts.Parts.{Parts}
 use Rattle.rows.specs.declared.row.Segment.{Segment}
-use Rattle.rows.specs.declared.refusal.RowRefusal.TheVariants.{SpareLeft}
+use Rattle.rows.specs.declared.refusal.RowRefusal.TheVariants.{Vanishes, SpareLeft}
 use Rattle.rows.specs.Sizes.{amount, highest, InRange}
 use Rattle.rows.specs.Apportion.{left_over, floating}
-use Rattle.rows.specs.Rows.{sizes, fixed_sum, floats, weight_at, weight_sum, laid, thin, filled, split_row, lengths_of}
+use Rattle.rows.specs.Rows.{sizes, parts_of, fixed_sum, floats, weight_at, weight_sum, laid, thin, unless_thin, filled, split_row, lengths_of}
 use Rattle.rows.proofs.Remainders.{left_few}
 
 pub parts_sound : (ps : List Part) → InRange (sizes ps)
 parts_sound [] = tt
 parts_sound (p ∷ ps) = ((p.low, p.high), parts_sound ps)
 
+-- a split has at most 16 parts
+pub parts_few : (ps : Parts) → length (parts_of ps) ≤ 16
+parts_few ps = listed_few ps.parts
+
 -- a part that was read as fixed
 pub fix_small : (p : Part) (m : Mm) → p.size ≡ Fix m → m.0 ≤ 16384
 fix_small p m e = subst (λ (s : Size). amount s ≤ highest s) e p.high
 
 -- one more segment of a row
-pub row_more : (gs : List Segment) (i : ℕ) (g : Segment) (rest : List ℕ) → i < length gs
-    → lengths_of (take (i + 1) (set gs i g)) ++ rest ≡ lengths_of (take i gs) ++ (g.length.0 ∷ rest)
-row_more gs i g rest l =
-    ap (λ t. lengths_of t ++ rest) (take_more_set gs i g l)
-    ∙ ap (λ t. t ++ rest) (map_push (λ x. x.length.0) (take i gs) g)
-    ∙ append_assoc (lengths_of (take i gs)) (g.length.0 ∷ []) rest
+pub row_more : (gs hs : List Segment) (g : Segment) (rest : List ℕ) → hs ≡ gs ++ g ∷ [] → lengths_of hs ++ rest ≡ lengths_of gs ++ (g.length.0 ∷ rest)
+row_more gs hs g rest e =
+    ap (λ t. lengths_of t ++ rest) e
+    ∙ ap (λ t. t ++ rest) (map_push (λ x. x.length.0) gs g)
+    ∙ append_assoc (lengths_of gs) (g.length.0 ∷ []) rest
 
 -- a row looks only at the lengths of its floating parts
 laid_same : (f g : ℕ → ℕ) (k : ℕ) (ss : List Size) → ((j : ℕ) → j < k + length (floats ss) → f j ≡ g j) → laid f k ss ≡ laid g k ss
@@ -53,6 +59,72 @@ filled_same f g ss h =
     let a = laid_same f g 0 ss (λ j l. h j (omega arith)) in
     let b = thin_same f g 0 0 ss (λ j l. h j (omega arith)) in
     cc
+
+-- the same, where the next length has been taken from g
+laid_next : (g h : ℕ → ℕ) (k : ℕ) (ss : List Size) → ((j : ℕ) → g (j + 1) ≡ h j) → laid g (k + 1) ss ≡ laid h k ss
+laid_next g h k [] e = refl
+laid_next g h k (Fix m ∷ ss) e = ap (λ t. m.0 ∷ t) (laid_next g h k ss e)
+laid_next g h k (Float w ∷ ss) e =
+    let a = e k in
+    let b = laid_next g h (k + 1) ss e in
+    cc
+
+thin_next : (g h : ℕ → ℕ) (k i : ℕ) (ss : List Size) → ((j : ℕ) → g (j + 1) ≡ h j) → thin g (k + 1) i ss ≡ thin h k i ss
+thin_next g h k i [] e = refl
+thin_next g h k i (Fix m ∷ ss) e = thin_next g h k (i + 1) ss e
+thin_next g h k i (Float w ∷ ss) e =
+    let a = e k in
+    let b = thin_next g h (k + 1) (i + 1) ss e in
+    cc
+
+-- the i segments gs are laid of a row of the parts `all` with lengths f, and the parts ss with lengths g are still to come
+pub record Laying (f : ℕ → ℕ) (all : List Size) (gs : List Segment) (i : ℕ) (g : ℕ → ℕ) (ss : List Size) : Type 0 where
+  pub lengths : lengths_of gs ++ laid g 0 ss ≡ laid f 0 all
+  pub thick : thin g 0 i ss ≡ thin f 0 0 all
+  pub count : length gs ≡ i
+
+-- the lengths from the i-th on
+abbrev pub onward : (ℕ → ℕ) → ℕ → ℕ → ℕ
+onward f i j = f (i + j)
+
+pub lay_begin : (f : ℕ → ℕ) (g : ℕ → ℕ) (all : List Size) (gs : List Segment) → gs ≡ [] → ((j : ℕ) → f j ≡ g j) → Laying f all gs 0 g all
+lay_begin f g all gs e same = record {
+  lengths = ap (λ t. lengths_of t ++ laid g 0 all) e ∙ sym (laid_same f g 0 all (λ j _. same j));
+  thick = sym (thin_same f g 0 0 all (λ j _. same j));
+  count = ap length e;
+}
+
+module _ (f : ℕ → ℕ) (all : List Size) (gs : List Segment) (i : ℕ) (g : ℕ → ℕ) where
+  pub lay_fixed : (hs : List Segment) (m : Mm) (ss : List Size) → Laying f all gs i g (Fix m ∷ ss) → hs ≡ gs ++ record { length = m } ∷ [] → Laying f all hs (i + 1) g ss
+  lay_fixed hs m ss l e = record {
+    lengths = row_more gs hs (record { length = m }) (laid g 0 ss) e ∙ l.lengths;
+    thick = l.thick;
+    count = ap length e ∙ length-append gs (record { length = m } ∷ []) ∙ ap (λ n. n + 1) l.count;
+  }
+
+  pub lay_floating : (hs : List Segment) (h : ℕ → ℕ) (m : Mm) (w : Weight) (ss : List Size) → Laying f all gs i g (Float w ∷ ss) → hs ≡ gs ++ record { length = m } ∷ []
+      → m.0 ≡ g 0 → least ≤ m.0 → ((j : ℕ) → g (j + 1) ≡ h j) → Laying f all hs (i + 1) h ss
+  lay_floating hs h m w ss l e is long next = record {
+    lengths =
+        row_more gs hs (record { length = m }) (laid h 0 ss) e
+        ∙ ap (λ t. lengths_of gs ++ (m.0 ∷ t)) (sym (laid_next g h 0 ss next))
+        ∙ ap (λ x. lengths_of gs ++ (x ∷ laid g 1 ss)) is
+        ∙ l.lengths;
+    thick =
+        sym (thin_next g h 0 (i + 1) ss next)
+        ∙ sym (cond-false _ _ _ (le-ltb (g 0) least (omega arith)))
+        ∙ l.thick;
+    count = ap length e ∙ length-append gs (record { length = m } ∷ []) ∙ ap (λ n. n + 1) l.count;
+  }
+
+  pub lay_vanishes : (w : Weight) (ss : List Size) → Laying f all gs i g (Float w ∷ ss) → g 0 < least → filled f all ≡ Err (Vanishes (i + 1))
+  lay_vanishes w ss l short =
+      ap (unless_thin (laid f 0 all)) (sym l.thick ∙ cond-true _ _ _ (lt-ltb (g 0) least short))
+
+  pub lay_end : Laying f all gs i g [] → filled f all ≡ Ok (lengths_of gs)
+  lay_end l =
+      ap (unless_thin (laid f 0 all)) (sym l.thick)
+      ∙ ap (λ t. Ok t) (sym l.lengths ∙ append-nil (lengths_of gs))
 
 -- the weights of sound parts
 pub sound_weights : (ss : List Size) → InRange ss → (k : ℕ) → k < length (floats ss) → (1 ≤ weight_at (floats ss) k) × (weight_at (floats ss) k ≤ 1000)

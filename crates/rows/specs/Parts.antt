@@ -1,5 +1,6 @@
 -- One part more.
-use Rattle.std.specs.Prelude.{◌≡◌, ℕ, ◌+◌, ◌<◌, ◌≤◌, Bool, true, false, [], ◌∷◌, ◌++◌}
+use Rattle.std.specs.Prelude.{◌≡◌, ℕ, ◌<◌, ◌≤◌, [], ◌∷◌, ◌++◌, length, Result, Ok, Err}
+use Rattle.bounded.specs.declared.full.Full.{Full}
 use Rattle.rows.specs.declared.part.Part.{Part}
 use Rattle.rows.specs.declared.parts.Parts.{Parts}
 use Rattle.rows.specs.Rows.{parts_of}
@@ -9,6 +10,6 @@ abbrev pub most_parts : ℕ
 most_parts = 16
 
 -- the part stands at the end, or there was no room and nothing changed
-abbrev pub Pushed : Parts → Part → Parts → Bool → Type 0
-Pushed before p after true = (before.count < most_parts) × (parts_of after ≡ parts_of before ++ p ∷ []) × (after.count ≡ before.count + 1)
-Pushed before p after false = (most_parts ≤ before.count) × (after ≡ before)
+abbrev pub Pushed : Parts → Part → Parts → Result Unit Full → Type 0
+Pushed before p after (Ok _) = (length (parts_of before) < most_parts) × (parts_of after ≡ parts_of before ++ p ∷ [])
+Pushed before p after (Err _) = (most_parts ≤ length (parts_of before)) × (after ≡ before)

@@ -1,5 +1,6 @@
 -- The row of a split and of a repeat.
-use Rattle.std.specs.Prelude.{ℕ, ◌+◌, ◌-◌, ◌*◌, ◌/◌, max, cond, ◌&&◌, List, [], ◌∷◌, map, length, take, replicate, Some, None, Ok, Err, Option, Result, ◌==◌, nat_lt, slice_index_or}
+use Rattle.std.specs.Prelude.{ℕ, ◌+◌, ◌-◌, ◌*◌, ◌/◌, max, cond, ◌&&◌, List, [], ◌∷◌, map, length, replicate, Some, None, Ok, Err, Option, Result, ◌==◌, nat_lt, slice_index_or}
+use Rattle.bounded.specs.Listed.{listed}
 use Rattle.geometry.specs.declared.units.Weight.{Weight}
 use Rattle.geometry.specs.Limits.{least}
 use Rattle.geometry.specs.Sums.{total}
@@ -19,7 +20,7 @@ sizes ps = map (λ p. p.size) ps
 
 -- the parts that a split holds
 abbrev pub parts_of : Parts → List Part
-parts_of ps = take ps.count ps.items
+parts_of ps = listed ps.parts
 
 -- the sum of the fixed lengths
 abbrev pub fixed_sum : List Size → ℕ
@@ -94,7 +95,7 @@ abbrev pub lengths_of : List Segment → List ℕ
 lengths_of gs = map (λ g. g.length.0) gs
 
 abbrev pub segments_of : Row → List Segment
-segments_of r = take r.count r.segments
+segments_of r = listed r.segments
 
 abbrev pub told : Row → List ℕ
 told r = lengths_of (segments_of r)

@@ -1,9 +1,9 @@
 // Making parts and tiles, and questions to rows and refusals.
-ghost use Rattle.std.specs.Prelude.{◌≡◌, ◌<◌, ◌≤◌, true, false, [], ◌∷◌, ◌++◌, length, MatchOption, nat_le};
+ghost use Rattle.std.specs.Prelude.{◌≡◌, ◌<◌, ◌≤◌, [], length, MatchOption};
 ghost use Rattle.geometry.specs.Limits.{least, site};
 ghost use Rattle.rows.specs.Sizes.{amount, lowest, highest, InRange};
 ghost use Rattle.rows.specs.Rows.{sizes, parts_of, segments_of, number, part_named};
-ghost use Rattle.rows.specs.Parts.{most_parts, Pushed};
+ghost use Rattle.rows.specs.Parts.{Pushed};
 
 use crate::part::Part;
 use crate::parts::Parts;
@@ -11,6 +11,8 @@ use crate::refusal::RowRefusal;
 use crate::row::{Row, Segment};
 use crate::size::Size;
 use crate::tile::Tile;
+use bounded::full::Full;
+use bounded::inline::InlineVec;
 use geometry::limits::{LEAST, SITE};
 use geometry::units::{Mm, Weight};
 
@@ -53,36 +55,23 @@ impl Part {
     }
 }
 
-// A split has no room for another part.
-fn is_full(count: usize) -> bool
-    ensures { result ≡ nat_le most_parts count }
-{
-    count >= MOST_PARTS
-}
-
 impl Parts {
     pub fn new() -> Parts
-        ensures { (parts_of result ≡ []) × (result.count ≡ 0) }
+        ensures { parts_of result ≡ [] }
     {
+        let blank = Part {
+            size: Size::Float(Weight(1)),
+        };
         Parts {
-            items: [Part {
-                size: Size::Float(Weight(1)),
-            }; 16],
-            count: 0,
+            parts: InlineVec::new(blank),
         }
     }
 
-    // One part more at the end; false, and nothing altered, where there are 16.
-    pub fn push(&mut self, part: Part) -> bool
+    // One part more at the end; refused, and nothing altered, where there are 16.
+    pub fn push(&mut self, part: Part) -> Result<(), Full>
         ensures { Pushed self.old part self.new result }
     {
-        let at = self.count;
-        if is_full(at) {
-            return false;
-        }
-        self.items[at] = part;
-        self.count = at + 1;
-        true
+        self.parts.push(part)
     }
 
     // The parts that ask for these sizes; None where one is out of range or there are more than 16.
@@ -91,26 +80,21 @@ impl Parts {
     {
         let mut parts = Parts::new();
         for size in wanted {
-            let Some(part) = Part::new(*size) else {
-                return None;
-            };
-            if !parts.push(part) {
-                return None;
-            }
+            parts.push(Part::new(*size)?).ok()?;
         }
         Some(parts)
     }
 
     pub fn len(&self) -> usize
-        ensures { (result ≡ self.now.count) × (result ≤ 16) }
+        ensures { (result ≡ length (parts_of self.now)) × (result ≤ 16) }
     {
-        self.count
+        self.parts.len()
     }
 
     pub fn as_slice(&self) -> &[Part]
-        ensures { (result.now ≡ parts_of self.now) × (length result.now ≡ self.now.count) }
+        ensures { (result.now ≡ parts_of self.now) × (length result.now ≤ 16) }
     {
-        &self.items[0..self.count]
+        self.parts.as_slice()
     }
 }
 
@@ -128,9 +112,9 @@ impl Tile {
 
 impl Row {
     pub fn as_slice(&self) -> &[Segment]
-        ensures { (result.now ≡ segments_of self.now) × (length result.now ≡ self.now.count) }
+        ensures { (result.now ≡ segments_of self.now) × (length result.now ≤ 64) }
     {
-        &self.segments[0..self.count]
+        self.segments.as_slice()
     }
 }
 
@@ -149,6 +133,7 @@ impl RowRefusal {
     }
 
     // The part that the refusal names, counted from 1; 0 if none.
+    // Stays: a stop tells its part as a number, 0 if none.
     pub fn part(self) -> u32
         ensures { result ≡ part_named self }
     {

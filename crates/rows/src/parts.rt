@@ -1,12 +1,8 @@
-// The parts of a split, at most 16: the first `count` of `items`.
-ghost use Rattle.std.specs.Prelude.{◌≤◌, length};
-
+// The parts of a split, at most 16.
 use crate::part::Part;
+use bounded::inline::InlineVec;
 
 #[derive(Clone, Copy)]
 pub struct Parts {
-    pub(crate) items: [Part; 16],
-    pub(crate) count: usize,
-    ghost few: { count ≤ 16 },
-    ghost full: { count ≤ length items },
+    pub(crate) parts: InlineVec<Part, 16>,
 }

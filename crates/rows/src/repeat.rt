@@ -7,9 +7,9 @@ ghost use Rattle.rows.specs.Laws.{Lawful};
 use crate::refusal::RowRefusal;
 use crate::row::{Row, Segment};
 use crate::shares::{extra, share};
-use crate::split::vanishes;
+use crate::split::thick;
 use crate::tile::Tile;
-use geometry::limits::LEAST;
+use bounded::inline::InlineVec;
 use geometry::units::{Mm, Weight};
 
 // The most tiles of a row.
@@ -50,18 +50,12 @@ fn tile_row(extent: Mm, n: u32) -> Result<Row, RowRefusal>
     requires { (1 ≤ n) × (n ≤ 64) }
     ensures { told_of result ≡ split_row extent.0 (replicate n tile_size) }
 {
-    let mut segments = [Segment { length: Mm(0) }; 64];
+    let mut segments = InlineVec::new(Segment { length: Mm(0) });
     for i in 0..n {
-        let length = tile_length(extent, n, i);
-        if length.0 < LEAST {
-            return Err(vanishes(i as usize));
-        }
-        segments[i as usize] = Segment { length };
+        let length = thick(tile_length(extent, n, i), i as usize)?;
+        let _ = segments.push(Segment { length });
     }
-    Ok(Row {
-        segments,
-        count: n as usize,
-    })
+    Ok(Row { segments })
 }
 
 // The row of a repeat in a scope of that length: equal tiles, as near as can be to the tile as drawn.

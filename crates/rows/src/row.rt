@@ -1,6 +1,5 @@
-// A row, at most 64 segments: the first `count` of `segments`.
-ghost use Rattle.std.specs.Prelude.{◌≤◌, length};
-
+// A row, at most 64 segments.
+use bounded::inline::InlineVec;
 use geometry::units::Mm;
 
 // What a row tells of one part or tile.
@@ -11,8 +10,5 @@ pub struct Segment {
 
 #[derive(Clone, Copy)]
 pub struct Row {
-    pub(crate) segments: [Segment; 64],
-    pub(crate) count: usize,
-    ghost few: { count ≤ 64 },
-    ghost full: { count ≤ length segments },
+    pub(crate) segments: InlineVec<Segment, 64>,
 }

@@ -1,5 +1,7 @@
 // The row of a split.
-ghost use Rattle.std.specs.Prelude.{◌≡◌, ◌+◌, ◌<◌, ◌≤◌, length, IfOk};
+ghost use Rattle.std.specs.Prelude.{◌≡◌, ℕ, ◌+◌, ◌<◌, ◌≤◌, length, IfOk, MatchResult};
+ghost use Rattle.std.specs.Slice.Iter.{iter_rest};
+ghost use Rattle.geometry.specs.Limits.{least};
 ghost use Rattle.rows.specs.Lengths.{length_at};
 ghost use Rattle.rows.specs.Rows.{sizes, parts_of, filled, split_row, told, told_of};
 ghost use Rattle.rows.specs.Laws.{Lawful};
@@ -11,41 +13,45 @@ use crate::refusal::RowRefusal;
 use crate::row::{Row, Segment};
 use crate::shares::apportion;
 use crate::size::Size;
+use bounded::inline::InlineVec;
 use geometry::limits::LEAST;
 use geometry::units::Mm;
+use std::slice::Iter;
 
-// The refusal that names part i, counted from 0, by its number from 1.
-pub(crate) fn vanishes(i: usize) -> RowRefusal
+// The length of part i, counted from 0; refused where it is too short.
+pub(crate) fn thick(length: Mm, i: usize) -> Result<Mm, RowRefusal>
     requires { i < 64 }
-    ensures { result ≡ RowRefusal.Vanishes (i + 1) }
+    ensures { MatchResult result (λ m. (m ≡ length) × (least ≤ m.0)) (λ e. (length.0 < least) × (e ≡ RowRefusal.Vanishes (i + 1))) }
 {
-    RowRefusal::Vanishes(i as u32 + 1)
+    if length.0 < LEAST {
+        return Err(RowRefusal::Vanishes(i as u32 + 1));
+    }
+    Ok(length)
+}
+
+// The next of some lengths, and no millimetre past their end.
+fn next_length(lengths: &mut Iter<'_, Mm>) -> Mm
+    ensures next { result.0 ≡ length_at (iter_rest lengths.old) 0 }
+    ensures rest { (k : ℕ) → length_at (iter_rest lengths.old) (k + 1) ≡ length_at (iter_rest lengths.new) k }
+{
+    lengths.next().copied().unwrap_or(Mm(0))
 }
 
 // The row in which the floating parts have the given lengths in order; refused where one of them is too short.
-fn fill(parts: &[Part], lengths: &[Mm; 16]) -> Result<Row, RowRefusal>
+fn fill(parts: &[Part], lengths: &[Mm]) -> Result<Row, RowRefusal>
     requires { length parts.now ≤ 16 }
     ensures { told_of result ≡ filled (length_at lengths.now) (sizes parts.now) }
 {
-    let mut segments = [Segment { length: Mm(0) }; 64];
-    let mut k = 0usize;
+    let mut floating = lengths.iter();
+    let mut segments = InlineVec::new(Segment { length: Mm(0) });
     for (i, part) in parts.iter().enumerate() {
-        match part.size {
-            Size::Fix(length) => segments[i] = Segment { length },
-            Size::Float(_) => {
-                let length = lengths[k];
-                if length.0 < LEAST {
-                    return Err(vanishes(i));
-                }
-                segments[i] = Segment { length };
-                k += 1;
-            }
-        }
+        let length = match part.size {
+            Size::Fix(length) => length,
+            Size::Float(_) => thick(next_length(&mut floating), i)?,
+        };
+        let _ = segments.push(Segment { length });
     }
-    Ok(Row {
-        segments,
-        count: parts.len(),
-    })
+    Ok(Row { segments })
 }
 
 fn split_parts(extent: Mm, parts: &[Part]) -> Result<Row, RowRefusal>
@@ -63,7 +69,7 @@ fn split_parts(extent: Mm, parts: &[Part]) -> Result<Row, RowRefusal>
         if rest.0 > 0 {
             return Err(RowRefusal::NothingFloats);
         }
-        return fill(parts, &[Mm(0); 16]);
+        return fill(parts, &[]);
     }
     let weights = &floating.weights[0..n];
     let shared = apportion(rest, weights, weight_sum(weights));

@@ -1,48 +1,47 @@
-use Rattle.std.proofs.Common.{◌≡◌, ℕ, ◌+◌, ◌-◌, ◌<◌, [], ◌∷◌, length, take, replicate, Some, None, Ok, Err, sym, ap, ◌∙◌, arith, length-set}
-use Rattle.std.proofs.lemmas.List.{append-nil}
-use Rattle.std.proofs.lemmas.Bool.{cond-true, cond-false, lt-ltb, le-ltb}
-use Rattle.geometry.specs.Limits.{least}
-use Rattle.rows.specs.Rows.{laid, thin, unless_thin, lengths_of, tile_size}
+use Rattle.std.proofs.Common.{◌≡◌, ℕ, ◌+◌, ◌-◌, [], List, replicate, sym, ap, ◌∙◌, subst, arith}
+use Rattle.std.proofs.lemmas.Result.{err_from_is_err_and}
+use Rattle.bounded.specs.Listed.{listed}
+use Rattle.bounded.proofs.Listed.{pushed_in}
+use Rattle.rows.specs.declared.size.Size.{Size}
+use Rattle.rows.specs.Rows.{tile_size}
 use Rattle.rows.specs.Tiles.{tile_length}
-use Rattle.rows.proofs.Fills.{row_more}
+use Rattle.rows.proofs.Fills.{Laying, onward, lay_begin, lay_floating, lay_vanishes, lay_end}
 use Rattle.rows.proofs.Tiled.{tiles_row, tile_next}
 use Rattle.rows.proofs.repeat.tile_row.Goals as goal
+
+pub loop-i-init : goal.loop-i-init
+loop-i-init c =
+    let f : ℕ → ℕ = tile_length c.args.extent.0 c.args.n in
+    let all : replicate (c.args.n - 0) tile_size ≡ replicate c.args.n tile_size = ap (λ m. replicate m tile_size) (omega arith) in
+    subst (λ (ss : List Size). Laying f (replicate c.args.n tile_size) (listed c.new-segments.result) 0 (onward f 0) ss) (sym all)
+    (lay_begin f (onward f 0) (replicate c.args.n tile_size) (listed c.new-segments.result) c.new-segments.ensures (λ j. ap f (omega arith)))
 
 pub loop-i-preserved : goal.loop-i-preserved
 loop-i-preserved c =
     let f : ℕ → ℕ = tile_length c.args.extent.0 c.args.n in
-    let l : c.loop-i.i < length c.loop-i.segments = omega (arith, c.requires.1, c.loop-i.invariant.2) in
-    let next = replicate (c.args.n - (c.loop-i.i + 1)) tile_size in
-    let read = tile_next c.args.n c.loop-i.i c.loop-i-test.true in
-    let e : laid f c.loop-i.i (replicate (c.args.n - c.loop-i.i) tile_size) ≡ f c.loop-i.i ∷ laid f (c.loop-i.i + 1) next =
-    ap (laid f c.loop-i.i) read in
-    let t : thin f c.loop-i.i c.loop-i.i (replicate (c.args.n - c.loop-i.i) tile_size) ≡ thin f (c.loop-i.i + 1) (c.loop-i.i + 1) next =
-    ap (thin f c.loop-i.i c.loop-i.i) read
-    ∙ cond-false _ _ _ (le-ltb (f c.loop-i.i) least (omega (arith, c.tile_length-length.ensures, c.if-length-lt-LEAST.false))) in
-    let m = row_more c.loop-i.segments c.loop-i.i (record { length = c.tile_length-length.result }) (laid f (c.loop-i.i + 1) next) l in
-    let i0 = c.loop-i.invariant.0 in
-    let i1 = c.loop-i.invariant.1 in
-    let h = c.tile_length-length.ensures in
-    (cc, cc, length-set _ _ _ ∙ c.loop-i.invariant.2)
+    let all = replicate c.args.n tile_size in
+    let gs = listed c.loop-i.segments in
+    let pushed = pushed_in 64 gs (record { length = c.in_ok-length.length }) (listed c.push.new.self) c.push.result c.push.ensures.pushed (omega (arith, c.loop-i.invariant.count, c.requires)) in
+    let here = subst (λ (ss : List Size). Laying f all gs c.loop-i.i (onward f c.loop-i.i) ss) (tile_next c.args.n c.loop-i.i c.loop-i-test.true) c.loop-i.invariant in
+    lay_floating f all gs c.loop-i.i (onward f c.loop-i.i) (listed c.push.new.self) (onward f (c.loop-i.i + 1)) c.in_ok-length.length (record { 0 = 1 }) _ here
+    pushed (ap (λ m. m.0) c.in_ok-length.ensures.0 ∙ c.tile_length.ensures ∙ ap f (omega arith)) c.in_ok-length.ensures.1 (λ j. ap f (omega arith))
 
-pub returns-then-length-lt-LEAST : goal.returns-then-length-lt-LEAST
-returns-then-length-lt-LEAST c =
+pub returns-in_err-length : goal.returns-in_err-length
+returns-in_err-length c =
     let f : ℕ → ℕ = tile_length c.args.extent.0 c.args.n in
     let all = replicate c.args.n tile_size in
-    let t : thin f c.loop-i.i c.loop-i.i (replicate (c.args.n - c.loop-i.i) tile_size) ≡ Some (c.loop-i.i + 1) =
-    ap (thin f c.loop-i.i c.loop-i.i) (tile_next c.args.n c.loop-i.i c.loop-i-test.true)
-    ∙ cond-true _ _ _ (lt-ltb (f c.loop-i.i) least (omega (arith, c.tile_length-length.ensures, c.if-length-lt-LEAST.true))) in
-    ap Err c.vanishes.ensures ∙ sym (ap (unless_thin (laid f 0 all)) (sym c.loop-i.invariant.1 ∙ t)) ∙ tiles_row c.args.extent.0 c.args.n c.requires.0
+    let gs = listed c.loop-i.segments in
+    let here = subst (λ (ss : List Size). Laying f all gs c.loop-i.i (onward f c.loop-i.i) ss) (tile_next c.args.n c.loop-i.i c.loop-i-test.true) c.loop-i.invariant in
+    let z : onward f c.loop-i.i 0 ≡ f c.loop-i.i = ap f (omega arith) in
+    let p = err_from_is_err_and c.from_residual.result c.from_residual.ensures.1 in
+    rw (p.1, p.2, c.in_err-length.ensures.1)
+    (sym (lay_vanishes f all gs c.loop-i.i (onward f c.loop-i.i) (record { 0 = 1 }) _ here (omega (arith, z, c.tile_length.ensures, c.in_err-length.ensures.0))) ∙ tiles_row c.args.extent.0 c.args.n c.requires.0)
 
 pub returns : goal.returns
 returns c =
     let f : ℕ → ℕ = tile_length c.args.extent.0 c.args.n in
     let all = replicate c.args.n tile_size in
-    let n : c.args.n ≡ c.loop-i.i = omega arith in
+    let gs = listed c.loop-i.segments in
     let none : replicate (c.args.n - c.loop-i.i) tile_size ≡ [] = let z : c.args.n - c.loop-i.i ≡ 0 = omega arith in ap (λ m. replicate m tile_size) z in
-    let e : laid f c.loop-i.i (replicate (c.args.n - c.loop-i.i) tile_size) ≡ [] = ap (laid f c.loop-i.i) none in
-    let t : thin f c.loop-i.i c.loop-i.i (replicate (c.args.n - c.loop-i.i) tile_size) ≡ None = ap (thin f c.loop-i.i c.loop-i.i) none in
-    let a = append-nil (lengths_of (take c.loop-i.i c.loop-i.segments)) in
-    let i0 = c.loop-i.invariant.0 in
-    let row : lengths_of (take c.args.n c.loop-i.segments) ≡ laid f 0 all = cc in
-    ap Ok row ∙ sym (ap (unless_thin (laid f 0 all)) (sym c.loop-i.invariant.1 ∙ t)) ∙ tiles_row c.args.extent.0 c.args.n c.requires.0
+    let here = subst (λ (ss : List Size). Laying f all gs c.loop-i.i (onward f c.loop-i.i) ss) none c.loop-i.invariant in
+    sym (lay_end f all gs c.loop-i.i (onward f c.loop-i.i) here) ∙ tiles_row c.args.extent.0 c.args.n c.requires.0

@@ -1,5 +1,6 @@
-use Rattle.std.proofs.Common.{◌≡◌, ℕ, ◌-◌, ◌<◌, ◌≤◌, List, length, take, sym, ap, ◌∙◌, subst, inl, inr, arith}
+use Rattle.std.proofs.Common.{◌≡◌, ℕ, ◌-◌, ◌<◌, ◌≤◌, List, [], length, take, sym, ap, ◌∙◌, subst, inl, inr, arith}
 use Rattle.geometry.specs.declared.units.Weight.{Weight}
+use Rattle.rows.specs.Lengths.{length_at}
 use Rattle.rows.specs.Apportion.{left_over, floating}
 use Rattle.rows.specs.Rows.{sizes, floats, weight_at, weight_sum, fixed_sum}
 use Rattle.rows.proofs.Fills.{parts_sound, floats_few, sound_weights, sum_positive, at_code, left_in, left_fits, split_spare, split_row_lem}
@@ -13,7 +14,7 @@ returns-then-n-eq0 c =
     let nothing : c.args.extent.0 - fixed_sum ss ≤ 0 = omega (arith, c.sub-rest.ensures, c.fixed_sum-fixed.ensures) in
     c.fill.ensures
     ∙ split_row_lem c.args.extent.0 ss (omega (arith, c.fixed_sum-fixed.ensures)) (inr nothing)
-    (left_fits c.args.extent.0 ss (parts_sound c.args.parts.now) (inr nothing)) _ (λ k h. omega arith)
+    (left_fits c.args.extent.0 ss (parts_sound c.args.parts.now) (inr nothing)) (length_at []) (λ k h. omega arith)
 
 -- the weights that are passed are those of the floating parts
 passed : (weights all : List Weight) (n : ℕ) → take n weights ≡ all → take (n - 0) weights ≡ all
