@@ -1,6 +1,8 @@
 -- What a line wants in each state of the code.
-use Rattle.std.specs.Prelude.{List, [], ◌∷◌, Some, None, Option}
+use Rattle.std.specs.Prelude.{◌≡◌, Bool, List, [], ◌∷◌, Some, None, Option}
 use Rattle.geometry.specs.Limits.{site}
+use Rattle.text.specs.Tokens.{Lexeme, told}
+use Rattle.text.specs.declared.tokens.Token.{Token}
 use Rattle.grammar.specs.Wants.{Want, form, head, name, num, range, axis, shut, items, item, parts, more, part, corner, size, weight_limit}
 use Rattle.grammar.specs.declared.state.Naming.TheVariants.{Declared, Own, Rule}
 use Rattle.grammar.specs.declared.state.State.{State}
@@ -44,3 +46,7 @@ expects Done = []
 abbrev pub wanted : Option State → Option (List Want)
 wanted None = None
 wanted (Some s) = Some (expects s)
+
+-- what is told of a test by its answers at a state and a token is what the test says of what is wanted there and of the lexeme
+abbrev pub TestedBy : (State → Token → Bool → Type 0) → (List Want → Lexeme → Bool) → Type 0
+TestedBy tells test = (s : State) (t : Token) (r : Bool) → tells s t r → r ≡ test (expects s) (told t)

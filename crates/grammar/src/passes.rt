@@ -3,7 +3,7 @@ ghost use Rattle.std.specs.Prelude.{◌≡◌, ℕ, Bool, List, [], ◌∷◌};
 ghost use Rattle.text.specs.Tokens.{Lexeme, told, tokens_of};
 ghost use Rattle.grammar.specs.Forms.{FirstStuck};
 ghost use Rattle.grammar.specs.Orders.{FirstWrong, Tells, good_numbers, good_names};
-ghost use Rattle.grammar.specs.States.{expects};
+ghost use Rattle.grammar.specs.States.{expects, TestedBy};
 ghost use Rattle.grammar.specs.Wants.{Want, form, first_at, misplaced, bad_number, bad_name, naming, ranging};
 
 use crate::state::{FileKind, Naming, State};
@@ -14,45 +14,27 @@ use text::numbers::number_in;
 use text::tokens::{Token, Tokens};
 use text::words::is_name;
 
-// A test on a token and on what is wanted where it stands.
-pub trait Test {
-    ghost wrong: { Self → List Want → Lexeme → Bool };
-
-    fn fails(&self, state: State, t: &Token) -> bool
-        ensures { result ≡ wrong self.now (expects state) (told t.now) };
-}
-
-// The column of the first token that fails a test; nothing is looked for past a token that does not fit.
-pub fn first_at<P: Test>(test: &P, file: FileKind, line: Line) -> Option<usize>
-    ensures { result ≡ first_at (P.wrong test.now) (form file ∷ []) (tokens_of line.entry.bytes.now) }
+// The column of the first token at which `wrong` holds of what may come there and of the token; nothing is looked for past a
+// token that does not fit.
+pub fn first_at<F: Fn(State, Token) -> bool>(wrong: F, file: FileKind, line: Line) -> Option<usize>
+    requires { F.IsAlwaysCallable wrong }
+    ensures { (test : List Want → Lexeme → Bool) → TestedBy (F.post wrong) test → result ≡ first_at test (form file ∷ []) (tokens_of line.entry.bytes.now) }
 {
-    let mut tokens = Tokens::of(line);
     let mut state = State::Start(file);
-    while let Some(t) = tokens.next() {
-        if test.fails(state, &t.value) {
+    for t in Tokens::of(line) {
+        if wrong(state, t.value) {
             return Some(t.column);
         }
-        match advance(state, &t.value) {
-            Some(next) => state = next,
-            None => return None,
-        }
+        state = advance(state, &t.value)?;
     }
     None
 }
 
-// A token at which no form can go on.
-#[derive(Clone, Copy)]
-pub struct Misplaced;
-
-impl Test for Misplaced {
-    ghost wrong = { λ _. misplaced };
-
-    fn fails(&self, state: State, t: &Token) -> bool {
-        match advance(state, t) {
-            Some(_) => false,
-            None => true,
-        }
-    }
+// Whether no form can go on at a token.
+fn is_misplaced(state: State, t: Token) -> bool
+    ensures { result ≡ misplaced (expects state) (told t.entry) }
+{
+    advance(state, &t).is_none()
 }
 
 // The range of the number that is wanted next, if one is.
@@ -83,39 +65,23 @@ pub fn wanted_name(state: State) -> Option<Naming>
     }
 }
 
-// A number that is malformed or out of its range.
-#[derive(Clone, Copy)]
-pub struct BadNumber;
-
-impl Test for BadNumber {
-    ghost wrong = { λ _. bad_number };
-
-    fn fails(&self, state: State, t: &Token) -> bool {
-        match t {
-            Token::Number(w) => match wanted_range(state) {
-                Some((low, high)) => number_in(w, low, high).is_none(),
-                None => false,
-            },
-            _ => false,
-        }
+// Whether a token is a number that is malformed or out of its range.
+fn is_bad_number(state: State, t: Token) -> bool
+    ensures { result ≡ bad_number (expects state) (told t.entry) }
+{
+    match (t, wanted_range(state)) {
+        (Token::Number(w), Some((low, high))) => number_in(w, low, high).is_none(),
+        _ => false,
     }
 }
 
-// A word that is no good name where a name is wanted.
-#[derive(Clone, Copy)]
-pub struct BadName;
-
-impl Test for BadName {
-    ghost wrong = { λ _. bad_name };
-
-    fn fails(&self, state: State, t: &Token) -> bool {
-        match t {
-            Token::Word(w) => match wanted_name(state) {
-                Some(_) => !is_name(w),
-                None => false,
-            },
-            _ => false,
-        }
+// Whether a token is a word that is no good name where a name is wanted.
+fn is_bad_name(state: State, t: Token) -> bool
+    ensures { result ≡ bad_name (expects state) (told t.entry) }
+{
+    match t {
+        Token::Word(w) => wanted_name(state).is_some() && !is_name(w),
+        _ => false,
     }
 }
 
@@ -124,7 +90,7 @@ pub fn find_misplaced(file: FileKind, line: Line) -> Option<usize>
     ensures value { result ≡ first_at misplaced (form file ∷ []) (tokens_of line.entry.bytes.now) }
     ensures first { FirstStuck file (tokens_of line.entry.bytes.now) result }
 {
-    first_at(&Misplaced, file, line)
+    first_at(is_misplaced, file, line)
 }
 
 // A number that is malformed or out of its range, a HIGH below its LOW among them.
@@ -133,7 +99,7 @@ pub fn find_bad_number(file: FileKind, line: Line) -> Option<usize>
     ensures tells { Tells good_numbers file (tokens_of line.entry.bytes.now) result }
     ensures value { result ≡ first_at bad_number (form file ∷ []) (tokens_of line.entry.bytes.now) }
 {
-    first_at(&BadNumber, file, line)
+    first_at(is_bad_number, file, line)
 }
 
 // A word that is no good name where a name is wanted.
@@ -142,5 +108,5 @@ pub fn find_bad_name(file: FileKind, line: Line) -> Option<usize>
     ensures tells { Tells good_names file (tokens_of line.entry.bytes.now) result }
     ensures value { result ≡ first_at bad_name (form file ∷ []) (tokens_of line.entry.bytes.now) }
 {
-    first_at(&BadName, file, line)
+    first_at(is_bad_name, file, line)
 }

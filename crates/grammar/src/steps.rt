@@ -9,7 +9,7 @@ use crate::state::{FileKind, Naming, State};
 use geometry::limits::SITE;
 use text::numbers::number_in;
 use text::tokens::Token;
-use text::words::{is_axis, same};
+use text::words::is_axis;
 
 // The greatest weight.
 pub const WEIGHT_LIMIT: u32 = 1000;
@@ -41,10 +41,7 @@ fn on_close(state: State) -> Option<State>
 fn low_of(w: &[u8]) -> u32
     ensures { result ≡ low_of w.now }
 {
-    match number_in(w, 1, SITE) {
-        Some(n) => n,
-        None => 1,
-    }
+    number_in(w, 1, SITE).unwrap_or(1)
 }
 
 fn on_number(state: State, w: &[u8]) -> Option<State>
@@ -69,21 +66,11 @@ fn on_number(state: State, w: &[u8]) -> Option<State>
 fn on_head(file: FileKind, w: &[u8]) -> Option<State>
     ensures { wanted result ≡ head_wants file w.now }
 {
-    match file {
-        FileKind::Rules => {
-            if same(w, b"material") {
-                Some(State::MaterialName)
-            } else if same(w, b"rule") {
-                Some(State::RuleName)
-            } else {
-                None
-            }
-        }
-        FileKind::Lots => if same(w, b"lot") {
-            Some(State::CornerX)
-        } else {
-            None
-        },
+    match (file, w) {
+        (FileKind::Rules, b"material") => Some(State::MaterialName),
+        (FileKind::Rules, b"rule") => Some(State::RuleName),
+        (FileKind::Lots, b"lot") => Some(State::CornerX),
+        _ => None,
     }
 }
 
@@ -91,41 +78,30 @@ fn on_head(file: FileKind, w: &[u8]) -> Option<State>
 fn on_item(k: u8, w: &[u8]) -> Option<State>
     ensures { wanted result ≡ onto (item_wants k w.now) (shut ∷ []) }
 {
-    if same(w, b"when") {
-        if k > 0 {
-            Some(State::GuardAxis(k - 1))
-        } else {
-            None
-        }
-    } else if same(w, b"make") {
-        Some(State::BodyName(Naming::Material))
-    } else if same(w, b"use") {
-        Some(State::BodyName(Naming::Rule))
-    } else if same(w, b"repeat") {
-        Some(State::RepeatAxis)
-    } else if same(w, b"split") {
-        Some(State::SplitAxis)
-    } else {
-        None
+    match w {
+        b"when" => k.checked_sub(1).map(State::GuardAxis),
+        b"make" => Some(State::BodyName(Naming::Material)),
+        b"use" => Some(State::BodyName(Naming::Rule)),
+        b"repeat" => Some(State::RepeatAxis),
+        b"split" => Some(State::SplitAxis),
+        _ => None,
     }
 }
 
 fn on_axis(next: State, w: &[u8]) -> Option<State>
     ensures { wanted result ≡ (if is_axis w.now then Some (expects next) else None) }
 {
-    if is_axis(w) { Some(next) } else { None }
+    is_axis(w).then_some(next)
 }
 
 // The word that begins a part.
 fn on_part(w: &[u8]) -> Option<State>
     ensures { wanted result ≡ onto (part_wants w.now) (more ∷ shut ∷ []) }
 {
-    if same(w, b"fix") {
-        Some(State::PartLength)
-    } else if same(w, b"float") {
-        Some(State::PartWeight)
-    } else {
-        None
+    match w {
+        b"fix" => Some(State::PartLength),
+        b"float" => Some(State::PartWeight),
+        _ => None,
     }
 }
 
