@@ -64,9 +64,5 @@ pub fn judge_line(file: FileKind, line: Line) -> Option<Placed<Fault>>
 pub fn first_column(line: Line) -> Option<usize>
     ensures { result ≡ column_of 0 (tokens_of line.entry.bytes.now) }
 {
-    let mut tokens = Tokens::of(line);
-    match tokens.next() {
-        Some(t) => Some(t.column),
-        None => None,
-    }
+    Tokens::of(line).next().map(|t| t.column)
 }

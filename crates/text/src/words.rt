@@ -16,5 +16,8 @@ pub fn is_name(word: &[u8]) -> bool
 pub fn is_axis(word: &[u8]) -> bool
     ensures { result ≡ is_axis word.now }
 {
-    matches!(word, b"x" | b"y" | b"z")
+    match word {
+        [b] => matches!(*b as char, 'x' | 'y' | 'z'),
+        _ => false,
+    }
 }
