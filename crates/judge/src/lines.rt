@@ -24,6 +24,7 @@ pub fn fault_at(fault: Fault, line: usize, column: usize) -> Placed<Fault>
 }
 
 // Of what is wrong with a line by itself the fault with the least number, at its leftmost place.
+// Stays: as a chain of `or_else` it needs a closure for each test and a long proof, and is no plainer.
 fn first_fault(file: FileKind, line: Line) -> Option<Placed<Fault>>
     ensures value { result ≡ judged file line.entry.number line.entry.bytes.now }
     ensures least { Least file line.entry.number line.entry.bytes.now result }
