@@ -171,3 +171,6 @@ token_word xs i r k t h s e o c d =
     let n : is_digit (get_or xs i 0) ≡ false =
     ⊎_elim (λ q. absurd (d (e ∙ to_digit (get_or xs i 0) q))) (λ q. q) (cases_Bool (is_digit (get_or xs i 0))) in
     token_run xs i r t m ∙ ap (λ u. (u, i + 1) ∷ tokens_at xs r) (cond-false _ _ _ (ap is_digit (first_between xs i r m) ∙ n))
+
+-- the first token, by the kind of the byte with which it begins
+pub ruleset first_token = (token_open, token_close, token_number, token_word)

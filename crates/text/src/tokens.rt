@@ -88,6 +88,7 @@ fn run_end(bytes: &[u8], at: usize) -> usize
 }
 
 // The token that begins at `at`, where no space stands, and its end.
+#[tactic(auto, using(crate::proofs::Lexed::first_token))]
 fn token_at<'a>(bytes: &'a [u8], at: usize) -> (Token<'a>, usize)
     requires { (at < length bytes.now) × (is_space (slice_index bytes.now at) ≡ false) }
     ensures { TokenAt bytes.now at result }
