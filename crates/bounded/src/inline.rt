@@ -65,3 +65,14 @@ impl<T: Copy, const N: usize> InlineVec<T, N> {
         &self.items[..self.count]
     }
 }
+
+// A full list.
+impl<T: Copy, const N: usize> From<[T; N]> for InlineVec<T, N> {
+    ghost use Rattle.bounded.specs.Listed.{listed};
+
+    ghost from_gives = { λ items v. listed v ≡ items };
+
+    fn from(items: [T; N]) -> InlineVec<T, N> {
+        InlineVec { items, count: N }
+    }
+}
