@@ -1,7 +1,8 @@
 -- The text of blocks is the join of their lines.
-use Rattle.std.proofs.Common.{◌≡◌, ℕ, List, [], ◌∷◌, ◌++◌, take, Some, None, Err, Option, Result, sym, refl, ap, ◌∙◌, subst, arith, MatchOption}
+use Rattle.std.proofs.Common.{◌≡◌, ℕ, List, [], ◌∷◌, ◌++◌, take, Ok, Err, Result, MatchResult, sym, refl, ap, ◌∙◌, subst, arith}
 use Rattle.std.proofs.lemmas.List.{append-nil, append_assoc}
 use Rattle.geometry.specs.declared.block.Block.{Block}
+use Rattle.sinks.specs.declared.offers.Refused.{Refused}
 use Rattle.sinks.specs.declared.refusal.SinkRefusal.{SinkRefusal}
 use Rattle.sinks.specs.Meaning.{HandsOut, Empty, Chain}
 use Rattle.sinks.specs.Tallied.{count_of, drawn_of}
@@ -17,26 +18,11 @@ lines_join s t (b ∷ bs) (u, first, rest) =
     ∙ append_assoc (obj_text s) (block_text (drawn_of s.tallies) b) (blocks_text (drawn_of u.tallies) bs)
     ∙ ap (λ d. obj_text s ++ (block_text (drawn_of s.tallies) b ++ blocks_text d bs)) first.drawn
 
--- where no block was refused the text is handed out
-pub not_refused : (o : Option SinkRefusal) → o ≡ None → (t u b a : List ℕ) (r : Result ℕ SinkRefusal) → t ≡ u → HandsOut t b a r
-    → MatchOption o (HandsOut u b a r) (λ e. (r ≡ Err e) × (a ≡ b))
-not_refused o none t u b a r same h =
-    let P : List ℕ → Type 0 = λ x. HandsOut x b a r in
-    let Q : Option SinkRefusal → Type 0 = λ x. MatchOption x (HandsOut u b a r) (λ e. (r ≡ Err e) × (a ≡ b)) in
-    subst Q (sym none) (subst P same h)
-
--- where one was refused its refusal is the answer
-pub was_refused : (o : Option SinkRefusal) (e : SinkRefusal) → o ≡ Some e → (u b : List ℕ) (r : Result ℕ SinkRefusal) → r ≡ Err e
-    → MatchOption o (HandsOut u b b r) (λ x. (r ≡ Err x) × (b ≡ b))
-was_refused o e some u b r is =
-    let Q : Option SinkRefusal → Type 0 = λ x. MatchOption x (HandsOut u b b r) (λ y. (r ≡ Err y) × (b ≡ b)) in
-    subst Q (sym some) (is, refl)
-
 -- an answer about a text is one about any equal text, which has to be equal only where no block was refused
-pub same_text : (o : Option SinkRefusal) (t u b a : List ℕ) (r : Result ℕ SinkRefusal) → (o ≡ None → t ≡ u)
-    → MatchOption o (HandsOut t b a r) (λ e. (r ≡ Err e) × (a ≡ b)) → MatchOption o (HandsOut u b a r) (λ e. (r ≡ Err e) × (a ≡ b))
-same_text None t u b a r same h = let P : List ℕ → Type 0 = λ x. HandsOut x b a r in subst P (same refl) h
-same_text (Some e) t u b a r same h = h
+pub same_text : (o : Result (Unit {0}) Refused) (t u b a : List ℕ) (r : Result ℕ SinkRefusal) → (o ≡ Ok tt → t ≡ u)
+    → MatchResult o (λ _. HandsOut t b a r) (λ e. (r ≡ Err e.refusal) × (a ≡ b)) → MatchResult o (λ _. HandsOut u b a r) (λ e. (r ≡ Err e.refusal) × (a ≡ b))
+same_text (Ok v) t u b a r same h = let P : List ℕ → Type 0 = λ x. HandsOut x b a r in subst P (same refl) h
+same_text (Err e) t u b a r same h = h
 
 -- the text of a drawing that began empty
 pub text_of : (s t : ObjText) (bs : List Block) → s.used ≡ 0 → Empty (obj_parts s) → Chain Drawn s bs t → obj_text t ≡ blocks_text 0 bs

@@ -1,5 +1,6 @@
 pub mod Writes
 pub mod Texts
+pub mod Outs
 pub mod Sheets
 pub mod SiteCells
 pub mod Joins

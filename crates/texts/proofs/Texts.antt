@@ -1,13 +1,15 @@
 -- Lengths and steps of texts that are joined from parts.
-use Rattle.std.proofs.Common.{◌≡◌, ℕ, zero, suc, ◌+◌, ◌-◌, ◌<◌, ◌≤◌, List, [], ◌∷◌, ◌++◌, length, get_or, take, decimal, sym, refl, ap, ◌∙◌, add-zero, add-one, arith, length-append}
+use Rattle.std.proofs.Common.{◌≡◌, ℕ, zero, suc, ◌+◌, ◌-◌, ◌*◌, ◌^◌, ◌<◌, ◌≤◌, List, [], ◌∷◌, ◌++◌, length, get_or, take, decimal, sym, refl, ap, ◌∙◌, add-zero, add-one, arith, length-append}
 use Rattle.std.specs.List.{flat_map}
+use Rattle.std.proofs.lemmas.Fmt.{length-decimal-le}
 use Rattle.std.proofs.lemmas.List.{take_more, flat_map_more}
 use Rattle.texts.specs.declared.line.LineKind.{LineKind}
-use Rattle.texts.specs.declared.line.LineKind.TheVariants.{Group, Vertex, Face, Material, Sum}
-use Rattle.texts.specs.declared.long_line.LongKind.{LongKind}
-use Rattle.texts.specs.declared.long_line.LongKind.TheVariants.{Done, Spent, Stop, RulesRefused, LotsRefused, Block}
-use Rattle.texts.specs.LongLines.{word_of, bracket_end, numbers_text}
+use Rattle.texts.specs.declared.line.LineKind.TheVariants.{Group, Vertex, Face, Material, Sum, Done, Spent, Stop, RulesRefused, LotsRefused, Block}
 use Rattle.texts.specs.Lines.{start_of, end_of, spaced, line_text, up_to}
+
+-- the length of a number
+pub length_few : (n : ℕ) → n < 2 ^ 64 → length (decimal n) ≤ 20
+length_few n h = length-decimal-le 20 n (omega arith) (omega arith) h
 
 -- one number more
 pub spaced_more : (ns : List ℕ) (i : ℕ) → i < length ns → spaced (take (i + 1) ns) ≡ spaced (take i ns) ++ (32 ∷ decimal (get_or ns i 0))
@@ -64,30 +66,29 @@ up_same f g zero h = refl
 up_same f g (suc n) h =
     ap (λ t. t ++ f n) (up_same f g n (λ k l. h k (omega arith))) ∙ ap (λ t. up_to g n ++ t) (h n (omega arith))
 
-pub length_ends : (k : LineKind) → length (start_of k) + length (end_of k) ≤ 9
-length_ends Group = omega arith
-length_ends Vertex = omega arith
-length_ends Face = omega arith
-length_ends Material = omega arith
-length_ends Sum = omega arith
-
--- a text of four pieces, as a line is
-pub length_pieces : (a b c d : List ℕ) → length (a ++ b ++ c ++ d) ≡ length a + length b + length c + length d
-length_pieces a b c d = omega (arith, length-append (a ++ b ++ c) d, length-append (a ++ b) c, length-append a b)
-
-pub length_word : (k : LongKind) → length (word_of k) + length bracket_end ≤ 17
-length_word Done = omega arith
-length_word Spent = omega arith
-length_word Stop = omega arith
-length_word RulesRefused = omega arith
-length_word LotsRefused = omega arith
-length_word Block = omega arith
-
 -- the pieces of a line are its text
 pub line_is : {a d : List ℕ} (k : LineKind) (n : ℕ) {ms ns : List ℕ} → a ≡ start_of k → ms ≡ ns → d ≡ end_of k → a ++ decimal n ++ spaced ms ++ d ≡ line_text k n ns
 unfolding line_text
 line_is k n p q r = cc
 
-pub long_is : {a d : List ℕ} (k : LongKind) (n : ℕ) {ms ns : List ℕ} → a ≡ word_of k → ms ≡ ns → d ≡ bracket_end → a ++ decimal n ++ spaced ms ++ d ≡ numbers_text k n ns
-unfolding numbers_text
-long_is k n p q r = cc
+-- a line is no longer than its start and end and twenty digits for each number allow
+length_ends : (k : LineKind) → length (start_of k) + length (end_of k) ≤ 17
+length_ends Group = omega arith
+length_ends Vertex = omega arith
+length_ends Face = omega arith
+length_ends Material = omega arith
+length_ends Sum = omega arith
+length_ends Done = omega arith
+length_ends Spent = omega arith
+length_ends Stop = omega arith
+length_ends RulesRefused = omega arith
+length_ends LotsRefused = omega arith
+length_ends Block = omega arith
+
+length_spaced_few : (ns : List ℕ) → ((k : ℕ) → get_or ns k 0 < 2 ^ 64) → length (spaced ns) ≤ 21 * length ns
+length_spaced_few [] h = omega arith
+length_spaced_few (n ∷ ns) h =
+    omega (arith, length-append (32 ∷ decimal n) (spaced ns), length_few n (h 0), length_spaced_few ns (λ k. h (suc k)))
+
+pub line_few : (k : LineKind) (n : ℕ) (ns : List ℕ) → n < 2 ^ 64 → ((k : ℕ) → get_or ns k 0 < 2 ^ 64) → length (line_text k n ns) ≤ 37 + 21 * length ns
+line_few k n ns h hs = omega (arith, length_line k n ns, length_ends k, length_few n h, length_spaced_few ns hs)

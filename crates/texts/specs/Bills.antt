@@ -21,6 +21,10 @@ sum_line count volume = line_text Sum (over_materials count) (over_materials vol
 unfoldable pub bill_text : (ℕ → ℕ) → (ℕ → ℕ) → List ℕ
 bill_text count volume = up_to (material_line count volume) materials ++ sum_line count volume
 
+-- the bill of tallies
+abbrev pub tallies_text : Tallies → List ℕ
+tallies_text t = bill_text (count_of t) (volume_held t)
+
 -- the volume in the cell of a sink whose one cell is the site
 abbrev pub site_cell : Tallies → Cell → ℕ
 site_cell t d = cond (in_grid site d) (over_materials (volume_held t)) 0

@@ -22,6 +22,10 @@ faces = (1 ∷ 3 ∷ 4 ∷ 2 ∷ []) ∷ (5 ∷ 6 ∷ 8 ∷ 7 ∷ []) ∷ (1 ∷
 abbrev pub corner_number : ℕ → ℕ → ℕ → ℕ
 corner_number d f k = slice_index (slice_index_or faces f []) k + 8 * d
 
+-- the line of a face with these vertices after d drawn blocks
+abbrev pub numbered_face : ℕ → List ℕ → List ℕ
+numbered_face d vs = line_text Face (slice_index vs 0 + 8 * d) ((slice_index vs 1 + 8 * d) ∷ (slice_index vs 2 + 8 * d) ∷ (slice_index vs 3 + 8 * d) ∷ [])
+
 -- the line of face f after d drawn blocks
 abbrev pub face_line : ℕ → ℕ → List ℕ
 face_line d f = line_text Face (corner_number d f 0) (corner_number d f 1 ∷ corner_number d f 2 ∷ corner_number d f 3 ∷ [])

@@ -1,6 +1,7 @@
 pub mod Writing
 pub mod Lines
-pub mod LongLines
+pub mod Outs
+pub mod Laws
 pub mod Drawings
 pub mod Bills
 pub mod Objs

@@ -1,10 +1,10 @@
 -- What the OBJ drawing means as a sink.
-use Rattle.std.specs.Prelude.{◌≡◌, ℕ, ◌+◌, ◌-◌, cond, List, [], ◌∷◌, ◌++◌, length, take, drop, Err, Result, MatchOption, ◌==◌, nat_le}
+use Rattle.std.specs.Prelude.{◌≡◌, ℕ, ◌+◌, ◌-◌, cond, List, [], ◌∷◌, ◌++◌, length, take, drop, Err, Result, MatchResult, ◌==◌, nat_le}
 use Rattle.geometry.specs.Limits.{site}
 use Rattle.geometry.specs.declared.block.Block.{Block}
 use Rattle.sinks.specs.Meaning.{Parts, Chain, Empty, HandsOut}
 use Rattle.sinks.specs.Laws.{Offers}
-use Rattle.sinks.specs.declared.offers.Offered.{Offered}
+use Rattle.sinks.specs.declared.offers.Refused.{Refused}
 use Rattle.sinks.specs.declared.refusal.SinkRefusal.{SinkRefusal}
 use Rattle.sinks.specs.Tallied.{count_of, volume_held, drawn_of}
 use Rattle.texts.specs.declared.drawing.ObjText.{ObjText}
@@ -44,18 +44,18 @@ LinesJoin = (s t : ObjText) (bs : List Block) → Chain Drawn s bs t → obj_tex
 -- blocks were offered to a drawing, and then its text was handed out; the refusal of a block is passed up and leaves the buffer
 pub record Drained (s : ObjText) (blocks : List Block) (buffer after : List ℕ) (r : Result ℕ SinkRefusal) : Type 0 where
   pub last : ObjText
-  pub offered : Offered
+  pub offered : Result (Unit {0}) Refused
   pub offers : Offers site obj_parts Drawn (λ u v. v ≡ u) s last blocks offered
-  pub answer : MatchOption offered.refusal (HandsOut (obj_text last) buffer after r) (λ e. (r ≡ Err e) × (after ≡ buffer))
+  pub answer : MatchResult offered (λ _. HandsOut (obj_text last) buffer after r) (λ e. (r ≡ Err e.refusal) × (after ≡ buffer))
 
 -- blocks were offered to a sink that began so, and then a text of them was handed out; the refusal of a block is passed up and leaves the buffer
 pub record Sheet {S : Type 0} (edge : ℕ) (parts : S → Parts) (took : S → Block → S → Type 0) (begins : S → Type 0) (blocks : List Block) (text buffer after : List ℕ) (r : Result ℕ SinkRefusal) : Type 0 where
   pub first : S
   pub last : S
-  pub offered : Offered
+  pub offered : Result (Unit {0}) Refused
   pub begun : begins first
   pub offers : Offers edge parts took (λ u v. v ≡ u) first last blocks offered
-  pub answer : MatchOption offered.refusal (HandsOut text buffer after r) (λ e. (r ≡ Err e) × (after ≡ buffer))
+  pub answer : MatchResult offered (λ _. HandsOut text buffer after r) (λ e. (r ≡ Err e.refusal) × (after ≡ buffer))
 
 -- a drawing that begins in that memory
 abbrev pub BeginsIn : List ℕ → ObjText → Type 0

@@ -1,18 +1,16 @@
 // A sink that keeps counts and volumes only, and can tell them as text.
-ghost use Rattle.std.specs.Prelude.{◌≡◌, ◌≤◌, true, [], ◌++◌, length, Some};
+ghost use Rattle.std.specs.Prelude.{◌≡◌, ◌+◌, ◌*◌, ◌≤◌, true, [], ◌++◌, length, refl};
 ghost use Rattle.geometry.specs.Limits.{site};
 ghost use Rattle.geometry.specs.declared.block.Block.{Block};
 ghost use Rattle.sinks.specs.Meaning.{HandsOut, Empty, Tells, in_grid};
 ghost use Rattle.sinks.specs.Tallied.{count_of, volume_held};
-ghost use Rattle.texts.specs.Writing.{Wrote};
-ghost use Rattle.texts.specs.Lines.{text_of};
-ghost use Rattle.texts.specs.LongLines.{long_text};
-ghost use Rattle.texts.specs.Bills.{material_line, sum_line, bill_text, site_cell, bill_parts};
+ghost use Rattle.texts.specs.Lines.{text_of, lent_text, up_to};
+ghost use Rattle.texts.specs.Bills.{material_line, sum_line, bill_text, tallies_text, site_cell, bill_parts};
 
 use crate::line::{Line, LineKind};
-use crate::lines::{Lines, line_at, line_len, lines_at, lines_len};
-use crate::long::{long_at, long_len};
-use crate::long_line::LongLine;
+use crate::lines::{LentLine, put_line};
+use crate::out::Out;
+use crate::writing::{Text, write};
 use geometry::block::Block;
 use geometry::cell::Cell;
 use geometry::limits::SITE;
@@ -21,80 +19,66 @@ use sinks::refusal::SinkRefusal;
 use sinks::sink::Sink;
 use sinks::tally::Tallies;
 
-fn material_line(tallies: &Tallies, m: usize) -> Option<Line>
-    ensures { text_of result ≡ material_line (count_of tallies.now) (volume_held tallies.now) m }
+// Puts the line of a material; none for one without a block.
+fn put_material<W: Out>(out: &mut W, tallies: &Tallies, m: usize)
+    requires { W.fits out.old (material_line (count_of tallies.now) (volume_held tallies.now) m) }
+    ensures { W.wrote out.old (material_line (count_of tallies.now) (volume_held tallies.now) m) out.new }
 {
     let (count, volume) = tallies.tally(m);
-    if count == 0 {
-        return None;
-    }
-    Some(Line {
-        kind: LineKind::Material,
-        first: m as u64,
-        others: [count, volume, 0],
-        many: 2,
-    })
-}
-
-fn sum_line(tallies: &Tallies) -> Line
-    ensures { text_of (Some result) ≡ sum_line (count_of tallies.now) (volume_held tallies.now) }
-{
-    Line {
-        kind: LineKind::Sum,
-        first: tallies.count_all(),
-        others: [tallies.volume_all(), 0, 0],
-        many: 1,
+    if count > 0 {
+        put_line(out, LineKind::Material, m as u64, &[count, volume]);
     }
 }
 
-#[derive(Clone, Copy)]
-struct Materials(Tallies);
-
-impl Lines for Materials {
-    ghost line = { λ s m. material_line (count_of s.0) (volume_held s.0) m };
-
-    fn line(&self, n: usize) -> Option<Line> {
-        material_line(&self.0, n)
+// Puts the lines of the materials, lowest first.
+fn put_materials<W: Out>(out: &mut W, tallies: &Tallies)
+    requires { W.fits out.old (up_to (material_line (count_of tallies.now) (volume_held tallies.now)) 16) }
+    ensures { W.wrote out.old (up_to (material_line (count_of tallies.now) (volume_held tallies.now)) 16) out.new }
+{
+    for m in 0..16 {
+        put_material(out, tallies, m);
     }
 }
 
-// How many bytes the text of tallies has.
-fn bill_len(tallies: &Tallies) -> usize
-    ensures value { result ≡ length (bill_text (count_of tallies.now) (volume_held tallies.now)) }
-    ensures bound { result ≤ 1700 }
+// Puts the line of all counts and volumes.
+fn put_sum<W: Out>(out: &mut W, tallies: &Tallies)
+    requires { W.fits out.old (sum_line (count_of tallies.now) (volume_held tallies.now)) }
+    ensures { W.wrote out.old (sum_line (count_of tallies.now) (volume_held tallies.now)) out.new }
 {
-    lines_len(&Materials(*tallies), 16) + line_len(&sum_line(tallies))
+    let volume = tallies.volume_all();
+    put_line(out, LineKind::Sum, tallies.count_all(), &[volume]);
 }
 
-// Writes the text of tallies over the start of a buffer, and answers where it ends.
-fn bill_at(out: &mut [u8], tallies: &Tallies) -> usize
-    requires { length (bill_text (count_of tallies.now) (volume_held tallies.now)) ≤ length out.old }
-    ensures { Wrote out.old 0 (bill_text (count_of tallies.now) (volume_held tallies.now)) out.new result }
-{
-    let to = lines_at(out, 0, &Materials(*tallies), 16);
-    line_at(out, to, &sum_line(tallies))
+impl Text for Tallies {
+    ghost text = { tallies_text };
+
+    fn put<W: Out>(&self, out: &mut W) {
+        put_materials(out, self);
+        put_sum(out, self);
+    }
 }
 
 // Writes the text of tallies over the start of a buffer; nothing where the buffer is shorter.
 pub fn write_tallies(tallies: &Tallies, out: &mut [u8]) -> Result<usize, SinkRefusal>
     ensures { HandsOut (bill_text (count_of tallies.now) (volume_held tallies.now)) out.old out.new result }
 {
-    if out.len() < bill_len(tallies) {
-        return Err(SinkRefusal::ShortBuffer);
-    }
-    Ok(bill_at(out, tallies))
+    write(tallies, out)
 }
 
-// The same with a line after the text.
-fn write_sheet(tallies: &Tallies, last: &LongLine, out: &mut [u8]) -> Result<usize, SinkRefusal>
-    ensures hands { HandsOut (bill_text (count_of tallies.now) (volume_held tallies.now) ++ long_text last.now) out.old out.new result }
-    ensures fits { length (bill_text (count_of tallies.now) (volume_held tallies.now) ++ long_text last.now) ≤ 1884 }
-{
-    if out.len() < bill_len(tallies) + long_len(last) {
-        return Err(SinkRefusal::ShortBuffer);
+// A bill and then a line.
+#[derive(Clone, Copy)]
+struct Sheet<'a> {
+    tallies: &'a Tallies,
+    last: LentLine<'a>,
+}
+
+impl<'a> Text for Sheet<'a> {
+    ghost text = { λ s. tallies_text s.tallies.now ++ lent_text s.last };
+
+    fn put<W: Out>(&self, out: &mut W) {
+        self.tallies.put(out);
+        self.last.put(out);
     }
-    let to = bill_at(out, tallies);
-    Ok(long_at(out, to, last))
 }
 
 #[derive(Drop)]
@@ -119,11 +103,19 @@ impl Bill {
     }
 
     // The text of the bill and then a line.
-    pub fn text_and_line(&self, last: &LongLine, out: &mut [u8]) -> Result<usize, SinkRefusal>
-        ensures hands { HandsOut (bill_text (bill_parts self.now).count (bill_parts self.now).volume ++ long_text last.now) out.old out.new result }
-        ensures fits { length (bill_text (bill_parts self.now).count (bill_parts self.now).volume ++ long_text last.now) ≤ 1884 }
+    pub fn text_and_line<const N: usize>(
+        &self,
+        last: &Line<N>,
+        out: &mut [u8],
+    ) -> Result<usize, SinkRefusal>
+        ensures hands { HandsOut (bill_text (bill_parts self.now).count (bill_parts self.now).volume ++ text_of last.now) out.old out.new result }
+        ensures fits { length (bill_text (bill_parts self.now).count (bill_parts self.now).volume ++ text_of last.now) ≤ 1700 + (37 + 21 * N) }
     {
-        write_sheet(&self.tallies, last, out)
+        let sheet = Sheet {
+            tallies: &self.tallies,
+            last: last.lend(),
+        };
+        write(&sheet, out)
     }
 }
 
@@ -174,4 +166,6 @@ impl Sink for Bill {
     fn drain(&mut self, _out: &mut [u8]) -> Result<usize, SinkRefusal> {
         Ok(0)
     }
+
+    ghost power = { refl };
 }

@@ -1,14 +1,15 @@
 // A sink that draws the blocks as an OBJ text in the caller's buffer.
-ghost use Rattle.std.specs.Prelude.{◌≡◌, ℕ, ◌+◌, ◌≤◌, [], length, nat_le};
+ghost use Rattle.std.specs.Prelude.{◌≡◌, ◌<◌, ◌^◌, [], length, nat_le, refl};
 ghost use Rattle.geometry.specs.Limits.{site};
 ghost use Rattle.geometry.specs.declared.block.Block.{Block};
-ghost use Rattle.sinks.specs.Meaning.{Empty, PowerOfTwo, limit};
+ghost use Rattle.sinks.specs.Meaning.{Empty};
 ghost use Rattle.texts.specs.Drawings.{block_text};
 ghost use Rattle.texts.specs.Objs.{obj_text, obj_parts, Drawn, Begun};
 
 use crate::bill::site_cell;
 use crate::bytes::hand_out;
-use crate::obj_lines::{block_at, block_len};
+use crate::obj_lines::BlockLines;
+use crate::writing::{measure, write_at};
 use geometry::block::Block;
 use geometry::cell::Cell;
 use geometry::limits::SITE;
@@ -46,11 +47,11 @@ impl<'b> ObjText<'b> {
 }
 
 // Whether the lines of a block fit in so many bytes.
-fn fits(drawn: u64, block: Block, rest: usize) -> bool
-    requires { drawn ≤ limit }
-    ensures { result ≡ nat_le (length (block_text drawn block)) rest }
+fn fits(lines: &BlockLines, rest: usize) -> bool
+    requires { rest < 2 ^ 63 }
+    ensures { result ≡ nat_le (length (block_text lines.now.drawn lines.now.block)) rest }
 {
-    block_len(drawn, block) <= rest
+    measure(lines) <= rest
 }
 
 impl<'b> Sink for ObjText<'b> {
@@ -67,8 +68,7 @@ impl<'b> Sink for ObjText<'b> {
     ghost text = { obj_text };
 
     fn edge_of() -> u32
-        ensures value { result ≡ site }
-        ensures power { PowerOfTwo site }
+        ensures { result ≡ site }
     {
         Self::EDGE
     }
@@ -76,9 +76,10 @@ impl<'b> Sink for ObjText<'b> {
     fn take(&mut self, block: Block) -> Result<(), SinkRefusal> {
         let at = self.used.min(self.out.len());
         let drawn = self.tallies.drawn();
-        let room = fits(drawn, block, self.out.len() - at);
+        let lines = BlockLines { drawn, block };
+        let room = fits(&lines, self.out.len() - at);
         self.tallies.receive(block, room)?;
-        self.used = block_at(self.out, at, drawn, block);
+        self.used = write_at(self.out, at, &lines);
         Ok(())
     }
 
@@ -99,12 +100,10 @@ impl<'b> Sink for ObjText<'b> {
         if n == 0 {
             return Ok(0);
         }
-        match hand_out(self.out, n, out) {
-            Ok(written) => {
-                self.begin_text();
-                Ok(written)
-            }
-            Err(refusal) => Err(refusal),
-        }
+        let written = hand_out(self.out, n, out)?;
+        self.begin_text();
+        Ok(written)
     }
+
+    ghost power = { refl };
 }

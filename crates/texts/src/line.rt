@@ -1,21 +1,25 @@
-// One line of text: a start and an end by its kind, and from one to four numbers with spaces between.
-ghost use Rattle.std.specs.Prelude.{◌≤◌};
+// One line of text: a start and an end by its kind, and numbers with spaces between.
+use bounded::inline::InlineVec;
 
-#[derive(Clone, Copy)]
+#[derive(Clone, Copy, PartialEq, Eq)]
 pub enum LineKind {
     Group,
     Vertex,
     Face,
     Material,
     Sum,
+    Done,
+    Spent,
+    Stop,
+    RulesRefused,
+    LotsRefused,
+    Block,
 }
 
-// The numbers are `first` and then `many` others.
+// A line with at most N numbers after the first.
 #[derive(Clone, Copy)]
-pub struct Line {
+pub struct Line<const N: usize> {
     pub kind: LineKind,
     pub first: u64,
-    pub others: [u64; 3],
-    pub many: usize,
-    ghost few: { many ≤ 3 },
+    pub others: InlineVec<u64, N>,
 }

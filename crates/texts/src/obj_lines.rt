@@ -1,13 +1,13 @@
 // The OBJ lines of a block: its group, its eight vertices and its six faces.
-ghost use Rattle.std.specs.Prelude.{◌≡◌, ℕ, ◌+◌, ◌≤◌, [], length, Some, slice_index, slice_index_or};
+ghost use Rattle.std.specs.Prelude.{◌≡◌, ◌≤◌};
 ghost use Rattle.sinks.specs.Meaning.{limit};
-ghost use Rattle.texts.specs.Writing.{Wrote};
-ghost use Rattle.texts.specs.Lines.{text_of, line_text};
-ghost use Rattle.texts.specs.declared.line.LineKind.TheVariants.{Group};
-ghost use Rattle.texts.specs.Drawings.{end_on, vertex_line, faces, face_line, block_text};
+ghost use Rattle.texts.specs.Lines.{up_to};
+ghost use Rattle.texts.specs.Drawings.{end_on, vertex_line, faces, numbered_face, face_line, block_text};
 
-use crate::line::{Line, LineKind};
-use crate::lines::{Lines, line_at, line_len, lines_at, lines_len};
+use crate::line::LineKind;
+use crate::lines::put_line;
+use crate::out::Out;
+use crate::writing::Text;
 use geometry::block::Block;
 use geometry::cuboid::Cuboid;
 use geometry::span::Span;
@@ -23,108 +23,79 @@ fn end_on(high: bool, span: Span) -> u64
     }
 }
 
-fn group_line(material: u8) -> Line
-    ensures { text_of (Some result) ≡ line_text Group material [] }
-{
-    Line {
-        kind: LineKind::Group,
-        first: material as u64,
-        others: [0; 3],
-        many: 0,
-    }
-}
-
-fn vertex_line(cuboid: Cuboid, v: usize) -> Line
-    ensures { text_of (Some result) ≡ vertex_line cuboid v }
+// Puts the line of a vertex.
+fn put_vertex<W: Out>(out: &mut W, cuboid: Cuboid, v: u32)
+    requires { W.fits out.old (vertex_line cuboid v) }
+    ensures { W.wrote out.old (vertex_line cuboid v) out.new }
 {
     let x = end_on(v % 2 == 1, cuboid.x);
     let y = end_on(v / 2 % 2 == 1, cuboid.y);
     let z = end_on(v >= 4, cuboid.z);
-    Line {
-        kind: LineKind::Vertex,
-        first: x,
-        others: [y, z, 0],
-        many: 2,
+    put_line(out, LineKind::Vertex, x, &[y, z]);
+}
+
+fn put_vertices<W: Out>(out: &mut W, cuboid: Cuboid)
+    requires { W.fits out.old (up_to (vertex_line cuboid) 8) }
+    ensures { W.wrote out.old (up_to (vertex_line cuboid) 8) out.new }
+{
+    for v in 0..8 {
+        put_vertex(out, cuboid, v);
     }
 }
 
-// The vertices of a face, counted from 1.
-fn face_vertices(f: usize) -> [u64; 4]
-    ensures { (k : ℕ) → slice_index result k ≡ slice_index (slice_index_or faces f []) k }
+// The vertices of each face, counted from 1.
+fn faces() -> [[u8; 4]; 6]
+    ensures { result ≡ faces }
 {
-    match f {
-        0 => [1, 3, 4, 2],
-        1 => [5, 6, 8, 7],
-        2 => [1, 2, 6, 5],
-        3 => [3, 7, 8, 4],
-        4 => [1, 5, 7, 3],
-        5 => [2, 4, 8, 6],
-        _ => [0, 0, 0, 0],
-    }
+    [
+        [1, 3, 4, 2],
+        [5, 6, 8, 7],
+        [1, 2, 6, 5],
+        [3, 7, 8, 4],
+        [1, 5, 7, 3],
+        [2, 4, 8, 6],
+    ]
 }
 
-fn face_line(drawn: u64, f: usize) -> Line
-    requires { drawn ≤ limit }
-    ensures { text_of (Some result) ≡ face_line drawn f }
+// Puts the line of a face after so many drawn blocks.
+fn put_face<W: Out>(out: &mut W, drawn: u64, face: [u8; 4])
+    requires small { drawn ≤ limit }
+    requires fits { W.fits out.old (numbered_face drawn face) }
+    ensures { W.wrote out.old (numbered_face drawn face) out.new }
 {
-    let v = face_vertices(f);
     let before = 8 * drawn;
-    Line {
-        kind: LineKind::Face,
-        first: v[0] + before,
-        others: [v[1] + before, v[2] + before, v[3] + before],
-        many: 3,
+    let at = |vertex: u8| u64::from(vertex) + before;
+    let [a, b, c, d] = face;
+    put_line(out, LineKind::Face, at(a), &[at(b), at(c), at(d)]);
+}
+
+fn put_faces<W: Out>(out: &mut W, drawn: u64)
+    requires small { drawn ≤ limit }
+    requires fits { W.fits out.old (up_to (face_line drawn) 6) }
+    ensures { W.wrote out.old (up_to (face_line drawn) 6) out.new }
+{
+    for face in faces() {
+        put_face(out, drawn, face);
     }
 }
 
+// The lines of a block after so many drawn ones.
 #[derive(Clone, Copy)]
-struct Vertices(Cuboid);
-
-impl Lines for Vertices {
-    ghost line = { λ s v. vertex_line s.0 v };
-
-    fn line(&self, n: usize) -> Option<Line> {
-        Some(vertex_line(self.0, n))
-    }
-}
-
-// The faces of a block after so many drawn ones.
-#[derive(Clone, Copy)]
-struct Faces {
-    drawn: u64,
+pub(crate) struct BlockLines {
+    pub(crate) drawn: u64,
+    pub(crate) block: Block,
     ghost few: { drawn ≤ limit },
 }
 
-impl Lines for Faces {
-    ghost line = { λ s f. face_line s.drawn f };
+impl Text for BlockLines {
+    ghost text = { λ s. block_text s.drawn s.block };
 
-    fn line(&self, n: usize) -> Option<Line> {
-        Some(face_line(self.drawn, n))
+    fn put<W: Out>(&self, out: &mut W) {
+        let block = self.block;
+        if block.material > 0 {
+            put_line(out, LineKind::Group, block.material as u64, &[]);
+            put_vertices(out, block.cuboid);
+            put_faces(out, self.drawn);
+        }
     }
-}
-
-// How many bytes the lines of a block have, after so many drawn ones.
-pub(crate) fn block_len(drawn: u64, block: Block) -> usize
-    requires { drawn ≤ limit }
-    ensures { result ≡ length (block_text drawn block) }
-{
-    if block.material == 0 {
-        return 0;
-    }
-    line_len(&group_line(block.material))
-        + lines_len(&Vertices(block.cuboid), 8)
-        + lines_len(&Faces { drawn }, 6)
-}
-
-// Writes the lines of a block from a place of the buffer on, and answers where they end.
-pub(crate) fn block_at(out: &mut [u8], at: usize, drawn: u64, block: Block) -> usize
-    requires { (drawn ≤ limit) × (at + length (block_text drawn block) ≤ length out.old) }
-    ensures { Wrote out.old at (block_text drawn block) out.new result }
-{
-    if block.material == 0 {
-        return at;
-    }
-    let a = line_at(out, at, &group_line(block.material));
-    let b = lines_at(out, a, &Vertices(block.cuboid), 8);
-    lines_at(out, b, &Faces { drawn }, 6)
 }

@@ -20,10 +20,8 @@ fn drain_blocks(
 ) -> Result<usize, SinkRefusal>
     ensures { Drained drawing.old blocks.now out.old out.new result }
 {
-    match offer_all(drawing, blocks).refusal {
-        Some(refusal) => Err(refusal),
-        None => drawing.drain(out),
-    }
+    offer_all(drawing, blocks)?;
+    drawing.drain(out)
 }
 
 // Draws the blocks in the caller's memory and hands their text out.
@@ -43,8 +41,6 @@ pub fn bill_blocks(blocks: &[Block], out: &mut [u8]) -> Result<usize, SinkRefusa
     ensures { Sheet site bill_parts (λ _ _ _. Unit {0}) (λ s. Empty (bill_parts s)) blocks.now (bill_text (count_in blocks.now) (volume_in blocks.now)) out.old out.new result }
 {
     let mut bill = Bill::new();
-    match offer_all(&mut bill, blocks).refusal {
-        Some(refusal) => Err(refusal),
-        None => bill.text(out),
-    }
+    offer_all(&mut bill, blocks)?;
+    bill.text(out)
 }

@@ -1,23 +1,9 @@
-use Rattle.std.proofs.Common.{Err, refl}
-use Rattle.texts.specs.Objs.{obj_text}
-use Rattle.texts.proofs.Joins.{not_refused, was_refused}
+use Rattle.std.proofs.Common.{Ok, Err, refl, rules, tests}
 use Rattle.texts.proofs.sheet.drain_blocks.Goals as goal
 
-pub returns-in-None : goal.returns-in-None
-returns-in-None c =
-    let t = c.offer_all.new.sink in
-    record {
-      last = t;
-      offered = c.offer_all.result;
-      offers = c.offer_all.ensures;
-      answer = not_refused c.offer_all.result.refusal c.in-None.is (obj_text t) (obj_text t) c.args.out.now c.drain.new.out c.drain.result refl c.drain.ensures.hands;
-    }
+pub returns-in_err-offer_all : goal.returns-in_err-offer_all
+returns-in_err-offer_all c =
+    record { last = c.offer_all.new.sink; offered = Err c.in_err-offer_all.field-0.0; offers = c.in_err-offer_all.ensures; answer = (search (rules, tests), refl) }
 
-pub returns-in-Some : goal.returns-in-Some
-returns-in-Some c =
-    record {
-      last = c.offer_all.new.sink;
-      offered = c.offer_all.result;
-      offers = c.offer_all.ensures;
-      answer = was_refused c.offer_all.result.refusal c.in-Some.refusal c.in-Some.is (obj_text c.offer_all.new.sink) c.args.out.now (Err c.in-Some.refusal) refl;
-    }
+pub returns : goal.returns
+returns c = record { last = c.offer_all.new.sink; offered = Ok tt; offers = c.in_ok-offer_all.ensures; answer = c.drain.ensures.hands }

@@ -1,11 +1,12 @@
-use Rattle.std.proofs.Common.{◌≡◌, ℕ, List, [], length, take, Ok, Err, sym, refl, ap, ◌∙◌, subst, arith}
+use Rattle.std.proofs.Common.{◌≡◌, ℕ, List, [], length, take, Ok, Err, Result, rules, tests, sym, refl, ap, ◌∙◌, subst, arith}
 use borrow.Rule.Slice.Mut.{set_vals}
 use Rattle.std.proofs.lemmas.List.{length-take-le}
 use Rattle.texts.specs.declared.drawing.ObjText.{ObjText}
-use Rattle.sinks.specs.Meaning.{over, HandsOut}
+use Rattle.sinks.specs.Meaning.{over, HandsOut, Draining}
+use Rattle.sinks.specs.declared.refusal.SinkRefusal.{SinkRefusal}
 use Rattle.sinks.specs.Tallied.{count_of, volume_held}
 use Rattle.texts.specs.Bills.{site_cell}
-use Rattle.texts.specs.Objs.{obj_parts}
+use Rattle.texts.specs.Objs.{obj_parts, obj_text}
 use Rattle.sinks.proofs.Blocks.{front_min}
 use Rattle.texts.proofs.drawing.ObjTextSink.drain.Goals as goal
 
@@ -20,16 +21,16 @@ returns-then-n-eq0 c =
       idle = λ _. (refl, refl);
     }
 
-pub returns-in-Ok : goal.returns-in-Ok
-returns-in-Ok c =
+pub returns : goal.returns
+returns c =
     let s = c.args.self.now in
     let xs = s.out.now in
     let n = c.min-n.result in
     let e : take n xs ≡ take s.used xs = ap (λ k. take k xs) c.min-n.ensures ∙ front_min s.used xs in
     let begun = c.begin_text.ensures in
-    let P : List ℕ → Type 0 = λ t. HandsOut t c.args.out.now c.hand_out.new.to (Ok c.in-Ok.written) in
+    let P : List ℕ → Type 0 = λ t. HandsOut t c.args.out.now c.hand_out.new.to (Ok c.in_ok-written.written) in
     record {
-      hands = subst P e c.in-Ok.ensures.hands;
+      hands = subst P e c.in_ok-written.ensures.hands;
       state = (
         record {
           count = λ m. ap (λ t. count_of t m) begun.tallies;
@@ -41,11 +42,14 @@ returns-in-Ok c =
       idle = λ none. absurd (c.if-n-eq0.false (omega (arith, ap length (e ∙ none), length-take-le n xs (omega (arith, c.min-n.ensures)))));
     }
 
-pub returns-in-Err : goal.returns-in-Err
-returns-in-Err c =
+pub returns-in_err-written : goal.returns-in_err-written
+returns-in_err-written c =
     let s = c.args.self.now in
     let xs = s.out.now in
     let e : take c.min-n.result xs ≡ take s.used xs = ap (λ k. take k xs) c.min-n.ensures ∙ front_min s.used xs in
-    let P : List ℕ → Type 0 = λ t. HandsOut t c.args.out.now c.hand_out.new.to (Err c.in-Err.refusal) in
+    let refused = c.in_err-written.field-0.0 in
+    let P : List ℕ → Type 0 = λ t. HandsOut t c.args.out.now c.hand_out.new.to (Err refused) in
     let same = ap {B = ObjText} (λ (ys : List ℕ). record { out = set_vals ys s.out; used = s.used; tallies = s.tallies }) c.hand_out.ensures.same in
-    record { hands = subst P e c.in-Err.ensures.hands; state = (ap obj_parts same, same); idle = λ _. (ap obj_parts same, same) }
+    let is : Err refused ≡ c.from_residual.result = search (rules, tests) in
+    subst (λ (r : Result ℕ SinkRefusal). Draining obj_parts obj_text (λ u v. v ≡ u) s (record { out = set_vals c.hand_out.new.from s.out; used = s.used; tallies = s.tallies }) c.args.out.now c.hand_out.new.to r) is
+    (record { hands = subst P e c.in_err-written.ensures.hands; state = (ap obj_parts same, same); idle = λ _. (ap obj_parts same, same) })

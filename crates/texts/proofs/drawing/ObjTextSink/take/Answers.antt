@@ -20,7 +20,7 @@ returns c =
     let at = c.min-at.result in
     let low : at ≤ length xs = omega (arith, c.min-at.ensures) in
     let lines = ap (λ n. block_text n b) c.drawn-drawn.ensures.value in
-    let w = wrote_is lines c.block_at-self.ensures in
+    let w = wrote_is lines c.write_at-self.ensures in
     let front : take at xs ≡ take s.used xs = ap (λ n. take n xs) c.min-at.ensures ∙ front_min s.used xs in
     let room : c.fits-room.result ≡ leb (length (block_text d b)) (length xs - s.used) =
     c.fits-room.ensures ∙ same_test _ _ _ _ (ap length lines) (omega (arith, c.min-at.ensures)) in

@@ -1,0 +1,60 @@
+// Where a text goes: it is measured, or written into a lent buffer.
+ghost use Rattle.std.specs.Prelude.{ℕ, List};
+ghost use Rattle.texts.specs.Outs.{OutLaws, Counted, is_counted, has_room, CursorWrote};
+
+use crate::bytes::text_at;
+
+pub(crate) trait Out {
+    // Whether there is room for a text.
+    ghost fits: { Self → List ℕ → Type 0 };
+
+    // What a text does that is put here.
+    ghost wrote: { Self → List ℕ → Self → Type 0 };
+
+    ghost laws: { OutLaws fits wrote };
+
+    fn put(&mut self, text: &[u8])
+        requires { fits self.old text.now }
+        ensures { wrote self.old text.now self.new };
+}
+
+// How many bytes came; the number stays at 2^64 - 1.
+#[derive(Drop)]
+pub(crate) struct Measure {
+    pub(crate) bytes: usize,
+}
+
+impl Out for Measure {
+    ghost use Rattle.texts.specs.Laws.{measure_laws};
+
+    ghost fits = { is_counted };
+
+    ghost wrote = { Counted };
+
+    ghost laws = { measure_laws };
+
+    fn put(&mut self, text: &[u8]) {
+        self.bytes = self.bytes.saturating_add(text.len());
+    }
+}
+
+// A place in a lent buffer.
+#[derive(Drop)]
+pub(crate) struct Cursor<'b> {
+    pub(crate) out: &'b mut [u8],
+    pub(crate) at: usize,
+}
+
+impl<'b> Out for Cursor<'b> {
+    ghost use Rattle.texts.specs.Laws.{cursor_laws};
+
+    ghost fits = { has_room };
+
+    ghost wrote = { CursorWrote };
+
+    ghost laws = { cursor_laws };
+
+    fn put(&mut self, text: &[u8]) {
+        self.at = text_at(self.out, self.at, text);
+    }
+}
