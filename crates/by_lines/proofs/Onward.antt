@@ -1,5 +1,5 @@
 -- Reading on, line by line.
-use Rattle.std.proofs.Common.{◌≡◌, ℕ, ◌+◌, ltb, false, List, length, Some, None, Option, Ok, Err, Result, sym, refl, ap, ◌∙◌, subst}
+use Rattle.std.proofs.Common.{◌≡◌, ℕ, ◌+◌, ltb, false, List, [], ◌∷◌, length, Some, None, Option, Ok, Err, Result, sym, refl, ap, ◌∙◌, subst}
 use Rattle.std.proofs.lemmas.Bool.{cond-false}
 use Rattle.text.specs.Lines.{file_limit, lines_of, lines_left, NextLine}
 use Rattle.text.specs.declared.lines.Line.{Line}
@@ -7,10 +7,10 @@ use Rattle.text.specs.declared.lines.Lines.{Lines}
 use Rattle.text.specs.declared.placed.Placed.{Placed}
 use Rattle.judge.specs.Files.{Leads}
 use Rattle.judge.specs.declared.faults.Fault.{Fault}
-use Rattle.by_lines.specs.Taken.{LinesTaken, file_verdict, FileTaken, Grows}
+use Rattle.by_lines.specs.Taken.{Taken, LinesTaken, file_verdict, FileTaken}
 
-module _ {P : Type 0} (fault : P → ℕ → List ℕ → Option (Placed Fault)) (verdict : P → ℕ → List (List ℕ) → Option (Placed Fault))
-    (Grown : ℕ → List ℕ → P → P → Type 0) (Fits : P → Type 0) (empty : P) where
+module _ {P : Type 0} (verdict : P → ℕ → List (List ℕ) → Option (Placed Fault)) (Grown : ℕ → List ℕ → P → P → Type 0) (Fits : P → Type 0)
+    (empty : P) where
   abbrev verdict_left : Lines → P → Option (Placed Fault)
   verdict_left s p = verdict p (s.before + 1) (lines_left s)
 
@@ -23,34 +23,34 @@ module _ {P : Type 0} (fault : P → ℕ → List ℕ → Option (Placed Fault))
     pub same : verdict p (s.before + 1) (lines_left s) ≡ verdict p₀ (s₀.before + 1) (lines_left s₀)
     pub led : (q : P) → LeadsLeft s p q → LeadsLeft s₀ p₀ q
 
-  module _ (g : Grows fault verdict Grown Fits empty) where
-    pub reading_begins : (s : Lines) (p : P) → p ≡ empty → Reading s p s p
-    reading_begins s p e = record { fits = subst Fits (sym e) g.begins; same = refl; led = λ q h. h }
+  pub reading_begins : Fits empty → (s : Lines) (p : P) → p ≡ empty → Reading s p s p
+  reading_begins b s p e = record { fits = subst Fits (sym e) b; same = refl; led = λ q h. h }
 
-    module _ (s₀ : Lines) (p₀ : P) (s : Lines) (p : P) (r : Reading s₀ p₀ s p) (t : Lines) where
-      pub reads_on : (l : Line) (q : P) → NextLine s t (Some l) → (fault p l.number l.bytes.now ≡ None) × (Grown l.number l.bytes.now p q) → Reading s₀ p₀ t q
-      reads_on l q n h =
-          let none : fault p (s.before + 1) l.bytes.now ≡ None = ap (λ k. fault p k l.bytes.now) (sym n.1) ∙ h.0 in
-          let grown : Grown (s.before + 1) l.bytes.now p q = subst (λ k. Grown k l.bytes.now p q) n.1 h.1 in
-          let on = g.goes_on p q (s.before + 1) l.bytes.now (lines_left t) r.fits none grown in
-          record {
-            fits = on.0;
-            same = ap (λ k. verdict q (k + 1) (lines_left t)) n.2 ∙ (sym on.1 ∙ (ap (verdict p (s.before + 1)) (sym n.0) ∙ r.same));
-            led = λ z h. r.led z (subst (λ ls. Leads Grown (s.before + 1) ls p z) (sym n.0)
-                (q, grown, subst (λ k. Leads Grown (k + 1) (lines_left t) q z) n.2 h));
-          }
+  module _ (s₀ : Lines) (p₀ : P) (s : Lines) (p : P) (r : Reading s₀ p₀ s p) (t : Lines) where
+    pub reads_on : (l : Line) (q : P) → NextLine s t (Some l) → Taken verdict Grown Fits l.number l.bytes.now p q (Ok tt) → Reading s₀ p₀ t q
+    reads_on l q n h =
+        let grown : Grown (s.before + 1) l.bytes.now p q = subst (λ k. Grown k l.bytes.now p q) n.1 h.0 in
+        record {
+          fits = h.1;
+          same =
+              ap (λ k. verdict q (k + 1) (lines_left t)) (n.2 ∙ sym n.1)
+              ∙ (sym (h.2 (lines_left t))
+              ∙ (ap (λ k. verdict p k (l.bytes.now ∷ lines_left t)) n.1 ∙ (ap (verdict p (s.before + 1)) (sym n.0) ∙ r.same)));
+          led = λ z d. r.led z (subst (λ ls. Leads Grown (s.before + 1) ls p z) (sym n.0)
+              (q, grown, subst (λ k. Leads Grown (k + 1) (lines_left t) q z) n.2 d));
+        }
 
-      pub stopped : (l : Line) (f : Placed Fault) → NextLine s t (Some l) → fault p l.number l.bytes.now ≡ Some f → verdict_left s₀ p₀ ≡ Some f
-      stopped l f n h =
-          sym r.same ∙ (ap (verdict p (s.before + 1)) n.0
-          ∙ g.stops p (s.before + 1) l.bytes.now (lines_left t) f (ap (λ k. fault p k l.bytes.now) (sym n.1) ∙ h))
+    pub stopped : (l : Line) (q : P) (f : Placed Fault) → NextLine s t (Some l) → Taken verdict Grown Fits l.number l.bytes.now p q (Err f)
+        → verdict_left s₀ p₀ ≡ Some f
+    stopped l q f n h =
+        sym r.same ∙ (ap (verdict p (s.before + 1)) n.0 ∙ (ap (λ k. verdict p k (l.bytes.now ∷ lines_left t)) (sym n.1) ∙ h.0 (lines_left t)))
 
-      pub ended : NextLine s t None → LinesTaken verdict Grown Fits empty s₀ p₀ p (Ok tt)
-      ended n = (
-        sym r.same ∙ (ap (verdict p (s.before + 1)) n.0 ∙ g.ends p (s.before + 1)),
-        r.led p (subst (λ ls. Leads Grown (s.before + 1) ls p p) (sym n.0) refl),
-        r.fits,
-      )
+    pub ended : ((p : P) (n : ℕ) → verdict p n [] ≡ None) → NextLine s t None → LinesTaken verdict Grown Fits empty s₀ p₀ p (Ok tt)
+    ended e n = (
+      sym r.same ∙ (ap (verdict p (s.before + 1)) n.0 ∙ e p (s.before + 1)),
+      r.led p (subst (λ ls. Leads Grown (s.before + 1) ls p p) (sym n.0) refl),
+      r.fits,
+    )
 
   -- all lines of a file were read into what was empty
   module _ (xs : List ℕ) (s : Lines) (p : P) (short : false ≡ ltb file_limit (length xs)) (all : lines_left s ≡ lines_of xs) (first : s.before ≡ 0)

@@ -1,5 +1,5 @@
 -- Lines that are read, one after the other, into what grows by them.
-use Rattle.std.specs.Prelude.{◌≡◌, ℕ, ◌+◌, cond, List, [], ◌∷◌, length, Some, None, Option, Ok, Err, Result, nat_lt}
+use Rattle.std.specs.Prelude.{◌≡◌, ℕ, ◌+◌, cond, List, ◌∷◌, length, Some, None, Option, Ok, Err, Result, nat_lt}
 use Rattle.text.specs.Lines.{file_limit, lines_of, lines_left}
 use Rattle.text.specs.declared.lines.Lines.{Lines}
 use Rattle.text.specs.declared.placed.Placed.{Placed}
@@ -7,11 +7,12 @@ use Rattle.judge.specs.Files.{whole_file, Leads}
 use Rattle.judge.specs.declared.faults.Fault.{Fault}
 use Rattle.judge.specs.declared.faults.Fault.TheVariants.{FileTooLong}
 
-module _ {P : Type 0} (fault : P → ℕ → List ℕ → Option (Placed Fault)) (Grown : ℕ → List ℕ → P → P → Type 0) where
-  -- a line is judged; it is added, or refused, and nothing is altered
+module _ {P : Type 0} (verdict : P → ℕ → List (List ℕ) → Option (Placed Fault)) (Grown : ℕ → List ℕ → P → P → Type 0)
+    (Fits : P → Type 0) where
+  -- a line is judged; it is added, and later lines are judged after it, or it is refused, and nothing is altered
   abbrev pub Taken : ℕ → List ℕ → P → P → Result Unit (Placed Fault) → Type 0
-  Taken n l p q (Ok u) = (fault p n l ≡ None) × (Grown n l p q)
-  Taken n l p q (Err f) = (fault p n l ≡ Some f) × (q ≡ p)
+  Taken n l p q (Ok u) = (Grown n l p q) × (Fits q) × ((ls : List (List ℕ)) → verdict p n (l ∷ ls) ≡ verdict q (n + 1) ls)
+  Taken n l p q (Err f) = ((ls : List (List ℕ)) → verdict p n (l ∷ ls) ≡ Some f) × (q ≡ p)
 
 module _ {P : Type 0} (verdict : P → ℕ → List (List ℕ) → Option (Placed Fault)) (Grown : ℕ → List ℕ → P → P → Type 0)
     (Fits : P → Type 0) (empty : P) where
@@ -28,12 +29,3 @@ module _ {P : Type 0} (verdict : P → ℕ → List (List ℕ) → Option (Place
   abbrev pub FileTaken : List ℕ → P → Result Unit (Placed Fault) → Type 0
   FileTaken xs q (Ok u) = (file_verdict xs ≡ None) × (Leads Grown 1 (lines_of xs) empty q) × (Fits q)
   FileTaken xs q (Err f) = (file_verdict xs ≡ Some f) × (q ≡ empty)
-
--- the verdict on lines is that of the first line that has a fault, and each line that is added leaves what still fits
-pub record Grows {P : Type 0} (fault : P → ℕ → List ℕ → Option (Placed Fault)) (verdict : P → ℕ → List (List ℕ) → Option (Placed Fault))
-    (Grown : ℕ → List ℕ → P → P → Type 0) (Fits : P → Type 0) (empty : P) : Type 0 where
-  pub begins : Fits empty
-  pub ends : (p : P) (n : ℕ) → verdict p n [] ≡ None
-  pub stops : (p : P) (n : ℕ) (l : List ℕ) (ls : List (List ℕ)) (f : Placed Fault) → fault p n l ≡ Some f → verdict p n (l ∷ ls) ≡ Some f
-  pub goes_on : (p q : P) (n : ℕ) (l : List ℕ) (ls : List (List ℕ)) → Fits p → fault p n l ≡ None → Grown n l p q
-      → (Fits q) × (verdict p n (l ∷ ls) ≡ verdict q (n + 1) ls)

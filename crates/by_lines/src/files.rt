@@ -1,9 +1,8 @@
 // A file read into what grows by its lines.
-ghost use Rattle.std.specs.Prelude.{◌≡◌, ℕ, List, Option, Some, None};
-ghost use Rattle.text.specs.Lines.{lines_left};
+ghost use Rattle.std.specs.Prelude.{◌≡◌, ℕ, List, [], Option, None};
 ghost use Rattle.text.specs.declared.placed.Placed.{Placed};
 ghost use Rattle.judge.specs.declared.faults.Fault.{Fault};
-ghost use Rattle.by_lines.specs.Taken.{Taken, LinesTaken, FileTaken, Grows};
+ghost use Rattle.by_lines.specs.Taken.{Taken, LinesTaken, FileTaken};
 
 use judge::faults::Fault;
 use judge::lines::fault_at;
@@ -13,9 +12,6 @@ use text::placed::Placed;
 
 // What grows by lines, one after the other.
 pub trait Grow {
-    // What a line of this number does wrong after the lines before it.
-    ghost fault: { Self → ℕ → List ℕ → Option (Placed Fault) };
-
     // The verdict on lines from this number on.
     ghost verdict: { Self → ℕ → List (List ℕ) → Option (Placed Fault) };
 
@@ -30,15 +26,16 @@ pub trait Grow {
     fn clear(&mut self)
         ensures { self.new ≡ empty };
 
-    ghost grows: { Grows fault verdict grown fits empty };
+    ghost begins: { fits empty };
+
+    ghost ends: { (p : Self) (n : ℕ) → verdict p n [] ≡ None };
 }
 
 // What takes the lines of a file.
 pub trait TakeLines<'a>: Grow {
     // Judges a line after those before it, and adds what it says.
     fn take_line(&mut self, line: Line<'a>) -> Result<(), Placed<Fault>>
-        requires { Self.fits self.old }
-        ensures { Taken Self.fault Self.grown line.entry.number line.entry.bytes.now self.old self.new result };
+        ensures { Self.fits self.old → Taken Self.verdict Self.grown Self.fits line.entry.number line.entry.bytes.now self.old self.new result };
 }
 
 // The lines of a file into what is empty, and is empty again where one is refused.

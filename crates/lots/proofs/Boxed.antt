@@ -1,5 +1,8 @@
 -- The boxes of lots, as their lines say them.
-use Rattle.std.proofs.Common.{◌≡◌, ℕ, true, false, not, List, [], ◌∷◌, None, sym, refl, ap, ◌∙◌}
+use Rattle.std.proofs.Common.{◌≡◌, ℕ, true, false, not, List, [], ◌∷◌, Some, None, sym, refl, ap, ◌∙◌}
+use Rattle.text.specs.Findings.{or_else}
+use Rattle.text.specs.declared.placed.Placed.{Placed}
+use Rattle.judge.specs.declared.faults.Fault.{Fault}
 use Rattle.text.specs.Numbers.{value_from}
 use Rattle.text.specs.Tokens.{Lexeme, opening, closing, number, word, tokens_of}
 use Rattle.grammar.specs.Forms.{Form, material, rule, lot, spell, plain, Fits}
@@ -15,6 +18,12 @@ pub box_passes : (bs : List Box) (n : ℕ) (b c : Box) → inside_site b ≡ tru
 box_passes bs n b c i e s =
     both_none _ _ (ap (λ t. found OutOfSite n (at_start (not t))) i)
     (ap (λ t. found SharesCube n (at_start t)) (ap (λ (d : Box). shares_any d bs) (sym e) ∙ sym s))
+
+pub box_shares : (bs : List Box) (n : ℕ) (b c : Box) (f : Placed Fault) → inside_site b ≡ true → c ≡ b → true ≡ shares_any c bs
+    → Some f ≡ found SharesCube n (Some 1) → box_fault bs n b ≡ Some f
+box_shares bs n b c f i e s g =
+    ap (λ t. or_else (found OutOfSite n (at_start (not t))) (found SharesCube n (at_start (shares_any b bs)))) i
+    ∙ (ap (λ t. found SharesCube n (at_start t)) (ap (λ (d : Box). shares_any d bs) (sym e) ∙ sym s) ∙ sym g)
 
 -- the same of lexemes without their columns
 abbrev values : List Lexeme → List ℕ

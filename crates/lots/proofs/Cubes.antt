@@ -1,9 +1,9 @@
 -- Boxes that share a cube.
-use Rattle.std.proofs.Common.{◌≡◌, ℕ, ◌+◌, ◌<◌, ◌≤◌, max, Bool, true, false, ◌||◌, List, map, length, get_or, drop, sym, ap, ◌∙◌, arith}
-use Rattle.std.proofs.lemmas.List.{at_drop_more, at_drop_all}
+use Rattle.std.proofs.Common.{◌≡◌, ℕ, ◌+◌, ◌<◌, ◌≤◌, max, true, ◌||◌, List, [], ◌∷◌, map, refl, ap, arith}
+use Rattle.std.specs.List.{list_any}
 use Rattle.std.proofs.lemmas.Bool.{and_parts, and_from, ltb-true, lt-ltb}
-use Rattle.geometry.specs.declared.cuboid.Cuboid.{Cuboid}
-use Rattle.lots.specs.Lists.{Box, box_of}
+use Rattle.lots.specs.Lists.{Box, boxed}
+use Rattle.lots.specs.declared.list.Lot.{Lot}
 use Rattle.lots.specs.Shares.{meets, shares, shares_any, Spans, SharesACube}
 
 -- on one axis
@@ -28,21 +28,7 @@ shares_a_cube a b hx hy hz kx ky kz = (
       (and_from _ _ (both a.py a.sy b.py b.sy c.1 c.3.1 c.4.1) (both a.pz a.sz b.pz b.sz c.2 c.3.2 c.4.2)),
 )
 
--- a box is looked for in a list, from the i-th on
-module _ (a : Box) (bs : List Cuboid) (i : ℕ) where
-  abbrev looked : List Cuboid → Bool
-  looked xs = shares_any a (map box_of xs)
-
-  step : (b : Cuboid) (t : Bool) → i < length bs → b ≡ get_or bs i b → t ≡ shares a (box_of b) → looked (drop i bs) ≡ (t || looked (drop (i + 1) bs))
-  step b t h e q =
-      at_drop_more looked bs i b h
-      ∙ ap (λ (s : Bool). s || looked (drop (i + 1) bs)) (sym (q ∙ ap (λ (c : Cuboid). shares a (box_of c)) e))
-
-  pub share_found : (b : Cuboid) → i < length bs → b ≡ get_or bs i b → true ≡ shares a (box_of b) → looked (drop i bs) ≡ true
-  share_found b h e q = step b true h e q
-
-  pub share_skip : (b : Cuboid) → i < length bs → b ≡ get_or bs i b → false ≡ shares a (box_of b) → looked (drop i bs) ≡ looked (drop (i + 1) bs)
-  share_skip b h e q = step b false h e q
-
-  pub share_none : length bs ≤ i → looked (drop i bs) ≡ false
-  share_none h = at_drop_all looked bs i h
+-- a box shares a cube with that of a lot
+pub shares_any_lot : (a : Box) (ls : List Lot) → shares_any a (map boxed ls) ≡ list_any (λ l. shares a (boxed l)) ls
+shares_any_lot a [] = refl
+shares_any_lot a (l ∷ ls) = ap (λ t. shares a (boxed l) || t) (shares_any_lot a ls)

@@ -1,21 +1,12 @@
 -- What a list of lots holds.
-use Rattle.std.specs.Prelude.{ℕ, List, []}
+use Rattle.std.specs.Prelude.{ℕ, []}
 use Rattle.geometry.specs.declared.cuboid.Cuboid.{Cuboid}
-use Rattle.bounded.specs.Held.{held_in}
-use Rattle.forms.specs.Told.{Name}
+use Rattle.lots.specs.declared.list.Lot.{Lot}
 use Rattle.lots.specs.declared.list.LotList.{LotList}
 
--- the boxes of the lots and the names of the rules that they begin with, in the order of the file
-pub record Lots : Type 0 where
-  pub boxes : List Cuboid
-  pub names : List Name
-
-abbrev pub lots_of : LotList → Lots
-lots_of l = record { boxes = held_in l.boxes; names = held_in l.names }
-
 -- an empty list
-abbrev pub no_lots : Lots
-no_lots = record { boxes = []; names = [] }
+abbrev pub no_lots : LotList
+no_lots = record { lots = [] }
 
 -- a corner and three sizes
 pub record Box : Type 0 where
@@ -35,3 +26,7 @@ box_of c = record {
   sy = c.y.size.0;
   sz = c.z.size.0;
 }
+
+-- the box of a lot
+abbrev pub boxed : Lot → Box
+boxed l = box_of l.cuboid

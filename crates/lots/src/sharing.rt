@@ -1,8 +1,10 @@
 // Boxes that share a cube.
-ghost use Rattle.std.specs.Prelude.{◌≡◌, map};
-ghost use Rattle.lots.specs.Lists.{box_of};
-ghost use Rattle.lots.specs.Shares.{meets, shares, shares_any, SharesACube};
+ghost use Rattle.std.specs.Prelude.{◌≡◌};
+ghost use Rattle.std.specs.List.{list_any};
+ghost use Rattle.lots.specs.Lists.{boxed, box_of};
+ghost use Rattle.lots.specs.Shares.{meets, shares, SharesACube};
 
+use crate::list::Lot;
 use geometry::cuboid::Cuboid;
 use geometry::span::Span;
 
@@ -20,16 +22,11 @@ pub fn share(a: Cuboid, b: Cuboid) -> bool
     meet(a.x, b.x) && meet(a.y, b.y) && meet(a.z, b.z)
 }
 
-// Whether a box shares a cube with one of a list.
-pub fn share_any(a: Cuboid, boxes: &[Cuboid]) -> bool
-    ensures { result ≡ shares_any (box_of a) (map box_of boxes.now) }
+// Whether a box shares a cube with that of one of these lots.
+pub fn share_any(a: Cuboid, lots: &[Lot]) -> bool
+    ensures { result ≡ list_any (λ lot. shares (box_of a) (boxed lot)) lots.now }
 {
-    for b in boxes {
-        if share(a, *b) {
-            return true;
-        }
-    }
-    false
+    lots.iter().any(|lot| share(a, lot.cuboid))
 }
 
 // What it is to share.

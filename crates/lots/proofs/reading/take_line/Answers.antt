@@ -1,5 +1,0 @@
-use Rattle.lots.proofs.Added.{line_taken}
-use Rattle.lots.proofs.reading.take_line.Goals as goal
-
-pub returns : goal.returns
-returns c = line_taken _ _ _ _ _ c.in_default.ensures.value c.in_default-find_too_many.ensures c.if-is_blank.ensures.value c.requires c.add_lot.ensures
