@@ -39,11 +39,11 @@ pub trait TakeLines<'a>: Grow {
 }
 
 // The lines of a file into what is empty, and is empty again where one is refused.
-fn read_lines<'a, T: TakeLines<'a>>(mut lines: Lines<'a>, to: &mut T) -> Result<(), Placed<Fault>>
+fn read_lines<'a, T: TakeLines<'a>>(lines: Lines<'a>, to: &mut T) -> Result<(), Placed<Fault>>
     requires { to.old ≡ T.empty }
     ensures { LinesTaken T.verdict T.grown T.fits T.empty lines.entry to.old to.new result }
 {
-    while let Some(line) = lines.next() {
+    for line in lines {
         if let Err(refusal) = to.take_line(line) {
             to.clear();
             return Err(refusal);

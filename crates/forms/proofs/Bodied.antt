@@ -24,7 +24,7 @@ use Rattle.forms.specs.Told.{Name, bytes_of, placed_word, axis_of, part_forms, s
 use Rattle.forms.specs.declared.shape.Shape.TheVariants.{Make as MakeShape, Use as UseShape, Repeat as RepeatShape, Split as SplitShape}
 use Rattle.forms.specs.declared.words.Head.TheVariants.{Make, Use, Repeat, Split}
 use Rattle.forms.proofs.Cleaned.{axis_clean, number_clean}
-use Rattle.forms.proofs.Splitting.{parts_length}
+use Rattle.rows.proofs.Fills.{parts_few}
 
 module _ (room : ℕ) (before after : List Name) (s t : Tokens) (h : UseTo before after s t) where
   pub make_body : BodyTo Make room before after s t MakeShape
@@ -106,12 +106,12 @@ split_body room before after s t u v a b ps d e h =
     d.is ∙ ap (λ x. (axis_at a.value, a.column) ∷ x) e.is in
     let same : length (parts_of ps) ≡ length h.past.used = sym h.past.counted in
     let some : 1 ≤ length (part_forms (parts_of ps) h.past.used) =
-    omega (arith, forms_length (parts_of ps) h.past.used same, parts_length ps, h.some) in
+    omega (arith, forms_length (parts_of ps) h.past.used same, h.some) in
     record {
       used = h.past.used;
       grown = h.past.grown;
       counted = h.past.counted;
-      few = let f : ps.count ≤ 16 = ps.few in omega (arith, h.past.counted, parts_length ps);
+      few = omega (arith, h.past.counted, parts_few ps);
       spelled =
           ap (λ x. opening ∷ word (codes "split") ∷ plain x) all
           ∙ (ap (λ x. opening ∷ word (codes "split") ∷ axis_at a.value ∷ x) h.past.spelled

@@ -1,5 +1,5 @@
 -- Parts one after the other.
-use Rattle.std.proofs.Common.{◌≡◌, ℕ, ◌+◌, ◌-◌, ◌<◌, ◌≤◌, true, false, ◌&&◌, List, [], ◌∷◌, ◌++◌, map, length, is_some, Some, None, decimal, Option, Ok, Err, Result, sym, refl, ap, ◌∙◌, subst, append_assoc, arith, length-append, length-take}
+use Rattle.std.proofs.Common.{◌≡◌, ℕ, ◌+◌, ◌-◌, ◌<◌, ◌≤◌, true, false, ◌&&◌, List, [], ◌∷◌, ◌++◌, map, length, is_some, Some, None, decimal, Option, Ok, Err, Result, sym, refl, ap, ◌∙◌, subst, append_assoc, arith, length-append}
 use Rattle.std.proofs.lemmas.List.{map-append}
 use Rattle.rows.specs.Parts.{Pushed}
 use Rattle.rows.specs.Rows.{parts_of}
@@ -30,11 +30,18 @@ use Rattle.forms.specs.declared.words.Bracket.{Bracket}
 use Rattle.forms.specs.declared.words.Bracket.TheVariants.{Open, Close}
 use Rattle.forms.proofs.Cleaned.{any, part_clean}
 
--- a part that is in range, and its name, were added, or there was no room
-pub added : (l : PartLine) (ps qs : Parts) (us vs : List Name) (p : Part) → p.size ≡ l.size → Pushed ps p qs true
-    → (r : Result Unit Full) → Held use_room us l.name vs r → AddedPart l ps qs us vs (result_ok r)
-added l ps qs us vs p e h (Ok u) d = record { new = p; same = e; parts = h.1; names = d.1 }
-added l ps qs us vs p e h (Err f) d = (d.1, λ a b c f. omega (arith, d.0))
+-- a part that is in range, and its name, were added
+pub added : (l : PartLine) (ps qs : Parts) (us vs : List Name) (p : Part) (x : Result Unit Full) (u : Unit {0}) → p.size ≡ l.size → Pushed ps p qs x
+    → Some u ≡ result_ok x → (r : Result Unit Full) → Held use_room us l.name vs r → AddedPart l ps qs us vs (result_ok r)
+added l ps qs us vs p (Ok w) u e h o (Ok v) d = record { new = p; same = e; parts = h.1; names = d.1 }
+added l ps qs us vs p (Ok w) u e h o (Err f) d = (d.1, λ a b c f. omega (arith, d.0))
+added l ps qs us vs p (Err f) u e h o r d = absurd (let q : Some u ≡ None = o in cc)
+
+-- there was no room for the part
+pub not_pushed : (l : PartLine) (ps qs : Parts) (us : List Name) (p : Part) (x : Result Unit Full) → Pushed ps p qs x → None ≡ result_ok x
+    → AddedPart l ps qs us us None
+not_pushed l ps qs us p (Ok w) h o = absurd (let q : None ≡ Some w = o in cc)
+not_pushed l ps qs us p (Err f) h o = (refl, λ a b c d. omega (arith, h.0))
 
 -- one part
 
@@ -68,9 +75,6 @@ forms_push (q ∷ ps) (m ∷ ns) p n e = ap (λ v. sized_as q.size (bytes_of m) 
 pub placed_push : (k : ℕ) (ns : List Name) (n : Name) → InLine k ns → n.line ≡ k → InLine k (ns ++ n ∷ [])
 placed_push k [] n h e = (e, tt)
 placed_push k (m ∷ ns) n h e = (h.0, placed_push k ns n h.1 e)
-
-pub parts_length : (ps : Parts) → length (parts_of ps) ≡ ps.count
-parts_length ps = length-take ps.count ps.items ∙ (let h : ps.count ≤ length ps.items = ps.full in omega arith)
 
 -- a part more was read
 pub part_past : (room c : ℕ) (before mid after : List Name) (s t u : Tokens) (ps qs : Parts) (l : PartLine)

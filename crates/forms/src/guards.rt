@@ -9,8 +9,8 @@ use bounded::inline::InlineVec;
 use geometry::axis::Axis;
 use geometry::limits::SITE;
 use geometry::units::Mm;
-use text::takes::{take_open, take_word};
-use text::tokens::Tokens;
+use text::takes::take;
+use text::tokens::{Token, Tokens};
 
 // What a word begins.
 fn item_of(word: &[u8]) -> Option<Item>
@@ -30,8 +30,8 @@ fn item_of(word: &[u8]) -> Option<Item>
 fn expect_item(tokens: &mut Tokens) -> Option<Item>
     ensures { TookItem tokens.old tokens.new result }
 {
-    take_open(tokens)?;
-    let word = take_word(tokens)?;
+    take(tokens, Token::opening)?;
+    let word = take(tokens, Token::word)?;
     item_of(word.value)
 }
 

@@ -9,8 +9,8 @@ use geometry::units::{Mm, Weight};
 use grammar::steps::WEIGHT_LIMIT;
 use rows::size::Size;
 use text::placed::Placed;
-use text::takes::take_word;
-use text::tokens::Tokens;
+use text::takes::take;
+use text::tokens::{Token, Tokens};
 
 // What a part asks for, and the rule that it goes on with.
 #[derive(Clone, Copy)]
@@ -33,7 +33,7 @@ fn kind_of(word: &[u8]) -> Option<Kind>
 fn expect_kind(tokens: &mut Tokens) -> Option<Placed<Kind>>
     ensures { TookKind tokens.old tokens.new result }
 {
-    let word = take_word(tokens)?;
+    let word = take(tokens, Token::word)?;
     let kind = kind_of(word.value)?;
     Some(word.with(kind))
 }

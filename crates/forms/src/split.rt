@@ -7,18 +7,18 @@ use crate::words::Bracket;
 use rows::part::Part;
 use rows::parts::Parts;
 use text::placed::Placed;
+use text::takes::take;
 use text::tokens::{Token, Tokens};
 
 // The bracket that begins a further part or ends the split.
 fn expect_more(tokens: &mut Tokens) -> Option<Placed<Bracket>>
     ensures { TookMore tokens.old tokens.new result }
 {
-    let token = tokens.next()?;
-    match token.value {
-        Token::Open => Some(token.with(Bracket::Open)),
-        Token::Close => Some(token.with(Bracket::Close)),
-        Token::Number(_) | Token::Word(_) => None,
-    }
+    take(tokens, |t| match t {
+        Token::Open => Some(Bracket::Open),
+        Token::Close => Some(Bracket::Close),
+        _ => None,
+    })
 }
 
 // One part more, and its name; None, and no name more, where there is no room.
@@ -26,9 +26,7 @@ fn add_part<'a>(line: PartLine<'a>, parts: &mut Parts, uses: &mut Uses<'a>) -> O
     ensures { AddedPart line.entry parts.old parts.new uses.old uses.new result }
 {
     let part = Part::new(line.size)?;
-    if !parts.push(part) {
-        return None;
-    }
+    parts.push(part).ok()?;
     uses.push(line.name).ok()
 }
 

@@ -6,35 +6,34 @@ use geometry::triple::Triple;
 use geometry::units::Mm;
 use text::numbers::number_in;
 use text::placed::Placed;
-use text::takes::{take_close, take_number, take_open, take_word};
-use text::tokens::Tokens;
-use text::words::same;
+use text::takes::take;
+use text::tokens::{Token, Tokens};
 
 // The opening bracket of a first part.
 pub(crate) fn expect_open(tokens: &mut Tokens) -> Option<Placed<()>>
     ensures { TookOpen tokens.old tokens.new result }
 {
-    take_open(tokens)
+    take(tokens, Token::opening)
 }
 
 pub(crate) fn expect_close(tokens: &mut Tokens) -> Option<Placed<()>>
     ensures { TookClose tokens.old tokens.new result }
 {
-    take_close(tokens)
+    take(tokens, Token::closing)
 }
 
 // Any word, where a name is wanted.
 pub(crate) fn expect_name<'a>(tokens: &mut Tokens<'a>) -> Option<Placed<&'a [u8]>>
     ensures { TookName tokens.old tokens.new result }
 {
-    take_word(tokens)
+    take(tokens, Token::word)
 }
 
 // A number from `low` to `high`.
 pub(crate) fn expect_number(tokens: &mut Tokens, low: u32, high: u32) -> Option<Placed<u32>>
     ensures { TookNumber low high tokens.old tokens.new result }
 {
-    let word = take_number(tokens)?;
+    let word = take(tokens, Token::number)?;
     let value = number_in(word.value, low, high)?;
     Some(word.with(value))
 }
@@ -43,10 +42,11 @@ pub(crate) fn expect_number(tokens: &mut Tokens, low: u32, high: u32) -> Option<
 fn axis_of(word: &[u8]) -> Option<Axis>
     ensures { AxisIn word.now result }
 {
-    match word {
-        b"x" => Some(Axis::X),
-        b"y" => Some(Axis::Y),
-        b"z" => Some(Axis::Z),
+    let [b] = word else { return None };
+    match *b as char {
+        'x' => Some(Axis::X),
+        'y' => Some(Axis::Y),
+        'z' => Some(Axis::Z),
         _ => None,
     }
 }
@@ -54,7 +54,7 @@ fn axis_of(word: &[u8]) -> Option<Axis>
 pub(crate) fn expect_axis(tokens: &mut Tokens) -> Option<Placed<Axis>>
     ensures { TookAxis tokens.old tokens.new result }
 {
-    let word = take_word(tokens)?;
+    let word = take(tokens, Token::word)?;
     let axis = axis_of(word.value)?;
     Some(word.with(axis))
 }
@@ -63,23 +63,16 @@ pub(crate) fn expect_axis(tokens: &mut Tokens) -> Option<Placed<Axis>>
 pub(crate) fn expect_head(tokens: &mut Tokens, text: &[u8]) -> Option<()>
     ensures { TookHead text.now tokens.old tokens.new result }
 {
-    take_open(tokens)?;
-    let word = take_word(tokens)?;
-    if same(word.value, text) {
-        Some(())
-    } else {
-        None
-    }
+    take(tokens, Token::opening)?;
+    let word = take(tokens, Token::word)?;
+    (word.value == text).then_some(())
 }
 
 // No token is left.
 pub(crate) fn expect_end(tokens: &mut Tokens) -> Option<()>
     ensures { TookEnd tokens.old result }
 {
-    match tokens.next() {
-        Some(_) => None,
-        None => Some(()),
-    }
+    tokens.next().is_none().then_some(())
 }
 
 // A name and the bracket that closes after it.

@@ -21,6 +21,7 @@ use Rattle.forms.specs.Reads.{Says}
 use Rattle.forms.specs.Taken.{LotRanged}
 use Rattle.forms.specs.Told.{lot_of}
 use Rattle.forms.specs.declared.lot.LotLine.{LotLine}
+use Rattle.bounded.proofs.Listed.{pushed_in}
 use Rattle.bounded.specs.Held.{Pushed}
 use Rattle.bounded.specs.declared.full.Full.{Full}
 use Rattle.lots.proofs.Boxed.{box_said_lem, box_passes}
@@ -78,10 +79,10 @@ box_read_lem n l r s h = box_said_lem l (lot_of r) tt s.spelled ∙ said_read r 
 pub lot_placed : (n : ℕ) (r : LotLine) (p : LotList) (c : Cuboid) (after : List Lot) (o : Result Unit Full)
     → (inside_site (box_read r) ≡ true) × (box_of c ≡ box_read r) → false ≡ shares_any (box_of c) (left_by p)
     → Pushed 16 p.lots (record { cuboid = c; name = r.name }) after o → LotPlaced n r p (record { lots = after }) (Ok tt)
-lot_placed n r p c after (Ok u) b s h =
-    (box_passes (left_by p) n (box_read r) (box_of c) b.0 b.1 s, (c, b.1, λ k. ap (λ (ls : List Lot). record { lots = ls }) h.1))
-lot_placed n r p c after (Err f) b s h =
-    (box_passes (left_by p) n (box_read r) (box_of c) b.0 b.1 s, (c, b.1, λ k. absurd (omega (arith, h.0, k))))
+lot_placed n r p c after o b s h = (
+  box_passes (left_by p) n (box_read r) (box_of c) b.0 b.1 s,
+  (c, b.1, λ k. ap (λ (ls : List Lot). record { lots = ls }) (pushed_in 16 p.lots _ after o h (omega (arith, k)))),
+)
 
 pub lot_taken : (n : ℕ) (l : List ℕ) (r : LotLine) (p q : LotList) (o : Result Unit (Placed Fault)) → Says LotFile n l (lot_of r) (r.name ∷ []) → LotRanged r
     → LotPlaced n r p q o → LotTaken n l p q o

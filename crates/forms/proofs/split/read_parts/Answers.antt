@@ -2,7 +2,7 @@ use Rattle.std.proofs.Common.{◌∙◌, arith}
 use Rattle.std.proofs.lemmas.List.{length-append}
 use Rattle.text.specs.Tokens.{tokens_left}
 use Rattle.forms.specs.Splits.{PartsPast}
-use Rattle.forms.proofs.Splitting.{parts_length, part_past, parts_on, parts_end, too_many_lem, not_added, no_more}
+use Rattle.forms.proofs.Splitting.{part_past, parts_on, parts_end, too_many_lem, not_added, no_more}
 use Rattle.forms.proofs.split.read_parts.Goals as goal
 use Rattle.forms.proofs.split.read_parts.Goals.{After-expect_more}
 
@@ -14,19 +14,19 @@ past c =
     part_past c.args.room c.loop-parts.invariant.column c.args.uses.now c.loop-parts.uses
     c.add_part.new.uses c.args.tokens.now c.loop-parts.tokens c.read_part.new.tokens
     c.loop-parts.parts c.add_part.new.parts c.in_ok-line.line c.loop-parts.invariant.past c.loop-parts.invariant.kept
-    (omega (arith, parts_length c.loop-parts.parts)) c.in_ok-line.ensures c.in_ok-add_part.ensures
+    (omega arith) c.in_ok-line.ensures c.in_ok-add_part.ensures
 
 pub returns-then-len-room : goal.returns-then-len-room
 returns-then-len-room c =
     too_many_lem c.args.room c.args.uses.now c.loop-parts.uses c.args.tokens.now c.loop-parts.tokens
-    c.loop-parts.parts c.loop-parts.invariant c.loop-parts.tokens (omega (arith, parts_length c.loop-parts.parts))
+    c.loop-parts.parts c.loop-parts.invariant c.loop-parts.tokens (omega arith)
 
 pub returns-in_err-add_part : goal.returns-in_err-add_part
 returns-in_err-add_part c =
     rw c.from_residual-in_err-add_part.ensures
     (not_added c.args.room c.args.uses.now c.loop-parts.uses c.args.tokens.now c.loop-parts.tokens
     c.loop-parts.parts c.loop-parts.invariant c.read_part.new.tokens c.read_part.new.tokens c.add_part.new.uses
-    c.add_part.new.parts c.in_ok-line.line (omega (arith, parts_length c.loop-parts.parts)) c.in_ok-line.ensures c.in_err-add_part.ensures)
+    c.add_part.new.parts c.in_ok-line.line (omega arith) c.in_ok-line.ensures c.in_err-add_part.ensures)
 
 pub loop-parts-preserved : goal.loop-parts-preserved
 loop-parts-preserved c =

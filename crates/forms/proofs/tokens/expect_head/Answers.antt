@@ -1,12 +1,14 @@
+use Rattle.std.proofs.Common.{rules}
+use Rattle.text.specs.Takes.{open_at, word_at}
 use Rattle.text.specs.Tokens.{tokens_left}
 use Rattle.forms.proofs.Leaves.{not_open, not_head}
 use Rattle.forms.proofs.tokens.expect_head.Goals as goal
 
-pub returns-in_err-take_open : goal.returns-in_err-take_open
-returns-in_err-take_open c =
-    rw c.from_residual.ensures (λ ts. not_open (tokens_left c.args.tokens.now) _ c.in_err-take_open.ensures.0)
+pub returns-in_err-take : goal.returns-in_err-take
+returns-in_err-take c =
+    rw c.from_residual.ensures (λ ts. not_open (tokens_left c.args.tokens.now) _ (c.in_err-take.ensures.took open_at (λ u o h. search rules)).0)
 
 pub returns-in_err-word : goal.returns-in_err-word
 returns-in_err-word c =
     rw c.from_residual-in_err-word.ensures (λ ts.
-    not_head c.args.text.now _ (tokens_left c.args.tokens.now) _ ts c.in_ok-take_open.ensures.0 c.in_err-word.ensures.0)
+    not_head c.args.text.now _ (tokens_left c.args.tokens.now) _ ts (c.in_ok-take.ensures.took open_at (λ u o h. search rules)).0 (c.in_err-word.ensures.took word_at (λ u o h. search rules)).0)
