@@ -7,11 +7,11 @@ use Rattle.draw.specs.declared.Entry.{Entry}
 
 -- the entry reaches out of the site
 abbrev pub NoBlock : Entry → Type 0
-NoBlock e = Fits e.corner.0 e.size.0 → Fits e.corner.1 e.size.1 → Fits e.corner.2 e.size.2 → ⊥
+NoBlock e = Fits e.corner.x.0 e.size.x.0 → Fits e.corner.y.0 e.size.y.0 → Fits e.corner.z.0 e.size.z.0 → ⊥
 
 -- b has the corner, sizes and material of the entry
 abbrev pub IsBlock : Entry → Block → Type 0
-IsBlock e b = Boxed e.corner.0 e.corner.1 e.corner.2 e.size.0 e.size.1 e.size.2 b.cuboid × (b.material ≡ e.material)
+IsBlock e b = Boxed e.corner.x.0 e.corner.y.0 e.corner.z.0 e.size.x.0 e.size.y.0 e.size.z.0 b.cuboid × (b.material ≡ e.material)
 
 -- the blocks of the entries, in their order
 abbrev pub AreBlocks : List Entry → List Block → Type 0

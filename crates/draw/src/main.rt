@@ -1,12 +1,13 @@
 // Draws a small wall: its blocks go into all four sinks, and the OBJ text and then the bill are printed.
 #![tactic(auto)]
 
-ghost use Rattle.std.specs.Prelude.{IfOk, MatchOption, OnOk};
+ghost use Rattle.std.specs.Prelude.{◌≡◌, IfOk, MatchOption, OnOk};
 ghost use Rattle.draw.specs.Entries.{NoBlock, IsBlock, AreBlocks, TakesAll};
 
 use anyhow::anyhow;
 use geometry::block::Block;
 use geometry::cuboid::Cuboid;
+use geometry::triple::Triple;
 use geometry::units::Mm;
 use sinks::list::BlockList;
 use sinks::offers::offer_all;
@@ -17,49 +18,60 @@ use std::alloc::Global;
 use std::io::Write;
 use texts::sheet::{bill_blocks, draw_blocks};
 
-// A block of the wall: corner, sizes and material.
+// A block of the wall.
+#[derive(Drop)]
 struct Entry {
-    corner: (u32, u32, u32),
-    size: (u32, u32, u32),
+    corner: Triple,
+    size: Triple,
     material: u8,
 }
 
+fn triple(x: u32, y: u32, z: u32) -> Triple
+    ensures { (result.x.0 ≡ x) × (result.y.0 ≡ y) × (result.z.0 ≡ z) }
+{
+    Triple {
+        x: Mm(x),
+        y: Mm(y),
+        z: Mm(z),
+    }
+}
+
 // A post, a sill, an opening, a lintel across two cells of the raster, and another post.
-const WALL: [Entry; 5] = [
-    Entry {
-        corner: (0, 0, 0),
-        size: (200, 100, 300),
-        material: 1,
-    },
-    Entry {
-        corner: (200, 0, 0),
-        size: (800, 100, 90),
-        material: 2,
-    },
-    Entry {
-        corner: (200, 0, 90),
-        size: (800, 100, 160),
-        material: 0,
-    },
-    Entry {
-        corner: (200, 0, 250),
-        size: (900, 100, 50),
-        material: 2,
-    },
-    Entry {
-        corner: (1000, 0, 0),
-        size: (100, 100, 250),
-        material: 1,
-    },
-];
+fn wall() -> [Entry; 5] {
+    [
+        Entry {
+            corner: triple(0, 0, 0),
+            size: triple(200, 100, 300),
+            material: 1,
+        },
+        Entry {
+            corner: triple(200, 0, 0),
+            size: triple(800, 100, 90),
+            material: 2,
+        },
+        Entry {
+            corner: triple(200, 0, 90),
+            size: triple(800, 100, 160),
+            material: 0,
+        },
+        Entry {
+            corner: triple(200, 0, 250),
+            size: triple(900, 100, 50),
+            material: 2,
+        },
+        Entry {
+            corner: triple(1000, 0, 0),
+            size: triple(100, 100, 250),
+            material: 1,
+        },
+    ]
+}
 
 // The entry as a block; none where it reaches out of the site.
 fn block_of(entry: &Entry) -> Option<Block>
     ensures { MatchOption result (NoBlock entry.now) (IsBlock entry.now) }
 {
-    let (px, py, pz) = entry.corner;
-    let (sx, sy, sz) = entry.size;
-    let cuboid = Cuboid::new(Mm(px), Mm(py), Mm(pz), Mm(sx), Mm(sy), Mm(sz))?;
+    let cuboid = Cuboid::new(entry.corner, entry.size)?;
     Some(Block {
         cuboid,
         material: entry.material,
@@ -72,10 +84,10 @@ fn blocks_of(heap: Global, entries: &[Entry]) -> anyhow::Result<Vec<Block>>
 {
     let mut blocks = Vec::new(heap);
     for entry in entries {
-        match block_of(entry) {
-            Some(block) => blocks.push(block)?,
-            None => return Err(anyhow!("an entry reaches out of the site")),
-        }
+        let Some(block) = block_of(entry) else {
+            return Err(anyhow!("an entry reaches out of the site"));
+        };
+        blocks.push(block)?;
     }
     Ok(blocks)
 }
@@ -84,10 +96,7 @@ fn blocks_of(heap: Global, entries: &[Entry]) -> anyhow::Result<Vec<Block>>
 fn fill<S: Sink>(sink: &mut S, blocks: &[Block]) -> anyhow::Result<()>
     ensures { OnOk result (TakesAll S.Sink.edge S.Sink.parts S.Sink.took sink.old blocks.now sink.new) }
 {
-    match offer_all(sink, blocks).refusal {
-        Some(_) => Err(anyhow!("a block was refused")),
-        None => Ok(()),
-    }
+    offer_all(sink, blocks).map_err(|_| anyhow!("a block was refused"))
 }
 
 // The blocks into the list and the raster, which are asked nothing here.
@@ -101,20 +110,14 @@ fn keep(heap: Global, blocks: &[Block]) -> anyhow::Result<()> {
 
 // Prints the first n bytes of a text.
 fn print(rt: &HostRuntime, text: &[u8], n: Result<usize, SinkRefusal>) -> anyhow::Result<()> {
-    match n {
-        Ok(n) => {
-            if n > text.len() {
-                return Err(anyhow!("no such text"));
-            }
-            rt.stdout().write_all(&text[0..n])?;
-            Ok(())
-        }
-        Err(_) => Err(anyhow!("a text was refused")),
-    }
+    let n = n.map_err(|_| anyhow!("a text was refused"))?;
+    let text = text.get(..n).ok_or_else(|| anyhow!("no such text"))?;
+    rt.stdout().write_all(text)?;
+    Ok(())
 }
 
 fn main(rt: HostRuntime) -> anyhow::Result<()> {
-    let blocks = blocks_of(rt.alloc(), &WALL)?;
+    let blocks = blocks_of(rt.alloc(), &wall())?;
     keep(rt.alloc(), &blocks)?;
     let mut memory = vec![in rt.alloc(); 0u8; 4096]?;
     let mut out = vec![in rt.alloc(); 0u8; 4096]?;

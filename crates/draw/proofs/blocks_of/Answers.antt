@@ -10,7 +10,7 @@ pub loop-entry-preserved : goal.loop-entry-preserved
 loop-entry-preserved c =
     let es = c.args.entries.now in
     let P : List Block → Type 0 = λ bs. AreBlocks (take (c.loop-entry.entry-index + 1) es) bs in
-    subst P (sym c.in_ok-push-in-Some.ensures.items)
+    subst P (sym c.in_ok-push.ensures.items)
     (are_more es c.loop-entry.entry-index (vec_items c.loop-entry.blocks) _ c.in-Some.block c.loop-entry-test.true c.loop-entry.invariant c.in-Some.ensures)
 
 pub returns : goal.returns
