@@ -2,33 +2,39 @@
 use Rattle.std.proofs.Common.{◌≡◌, ℕ, zero, suc, ◌+◌, ◌-◌, ◌<◌, ◌≤◌, false, Ok, cond, ◌&&◌, eqb, ltb, ◌⊎◌, List, [], ◌∷◌, ◌++◌, length, Err, sym, refl, ap, ◌∙◌, subst, ⊎_elim, arith, length-append}
 use Rattle.std.proofs.lemmas.List.{map_push, append_assoc, append-nil}
 use Rattle.std.proofs.lemmas.Bool.{cond-true, cond-false, lt-ltb, le-ltb, ne_eqb, and_left, and_right}
-use Rattle.bounded.proofs.Listed.{listed_few}
 use Rattle.geometry.specs.declared.units.Mm.{Mm}
 use Rattle.geometry.specs.declared.units.Weight.{Weight}
 use Rattle.geometry.specs.Limits.{least}
-use Rattle.geometry.proofs.Totals.{total_part}
+use Rattle.geometry.proofs.Totals.{total_part, total_front}
 use Rattle.rows.specs.declared.size.Size.{Size}
 use Rattle.rows.specs.declared.size.Size.TheVariants.{Fix, Float}
 use Rattle.rows.specs.declared.part.Part.{Part}
-use Rattle.rows.specs.declared.parts.Parts.{Parts}
 use Rattle.rows.specs.declared.row.Segment.{Segment}
 use Rattle.rows.specs.declared.refusal.RowRefusal.TheVariants.{Vanishes, SpareLeft}
 use Rattle.rows.specs.Sizes.{amount, highest, InRange}
 use Rattle.rows.specs.Apportion.{left_over, floating}
-use Rattle.rows.specs.Rows.{sizes, parts_of, fixed_sum, floats, weight_at, weight_sum, laid, thin, unless_thin, filled, split_row, lengths_of}
+use Rattle.rows.specs.Rows.{sizes, fixed_sum, floats, weight_at, weight_sum, laid, thin, unless_thin, filled, split_row, lengths_of}
 use Rattle.rows.proofs.Remainders.{left_few}
 
 pub parts_sound : (ps : List Part) → InRange (sizes ps)
 parts_sound [] = tt
 parts_sound (p ∷ ps) = ((p.low, p.high), parts_sound ps)
 
--- a split has at most 16 parts
-pub parts_few : (ps : Parts) → length (parts_of ps) ≤ 16
-parts_few ps = listed_few ps.parts
-
 -- a part that was read as fixed
 pub fix_small : (p : Part) (m : Mm) → p.size ≡ Fix m → m.0 ≤ 16384
 fix_small p m e = subst (λ (s : Size). amount s ≤ highest s) e p.high
+
+-- and one that floats
+pub float_small : (p : Part) (w : Weight) → p.size ≡ Float w → w.0 ≤ 1000
+float_small p w e = subst (λ (s : Size). amount s ≤ highest s) e p.high
+
+-- one more weight
+sum_front : (w : Weight) (ws : List Weight) → weight_sum (w ∷ ws) ≡ w.0 + weight_sum ws
+sum_front w ws = total_front (weight_at (w ∷ ws)) (length ws)
+
+pub sum_push : (ws : List Weight) (w : Weight) → weight_sum (ws ++ w ∷ []) ≡ weight_sum ws + w.0
+sum_push [] w = omega arith
+sum_push (x ∷ ws) w = omega (arith, sum_front x (ws ++ w ∷ []), sum_push ws w, sum_front x ws)
 
 -- one more segment of a row
 pub row_more : (gs hs : List Segment) (g : Segment) (rest : List ℕ) → hs ≡ gs ++ g ∷ [] → lengths_of hs ++ rest ≡ lengths_of gs ++ (g.length.0 ∷ rest)

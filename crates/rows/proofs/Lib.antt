@@ -5,3 +5,4 @@ pub mod Looping
 pub mod Fills
 pub mod Lawfuls
 pub mod Tiled
+pub mod Ahead

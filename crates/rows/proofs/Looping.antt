@@ -1,6 +1,7 @@
 -- The step of a loop that reads a slice or fills an array.
-use Rattle.std.proofs.Common.{◌≡◌, ℕ, ◌+◌, ◌<◌, ◌≢◌, List, ◌∷◌, length, get_or, drop, set, sym, ap, ◌∙◌, arith, below_more}
-use Rattle.std.proofs.lemmas.List.{drop_more, get_or-set_same, get_or-set_other}
+use Rattle.std.proofs.Common.{◌≡◌, ℕ, ◌+◌, ◌<◌, List, [], ◌∷◌, ◌++◌, length, get_or, drop, sym, ap, ◌∙◌, arith, below_more}
+use Rattle.std.proofs.Math.Seq.{get_or-append_seam}
+use Rattle.std.proofs.lemmas.List.{drop_more, get_or_append_left}
 use Rattle.geometry.specs.declared.units.Mm.{Mm}
 use Rattle.rows.specs.declared.size.Size.{Size}
 use Rattle.rows.specs.declared.part.Part.{Part}
@@ -18,9 +19,10 @@ size_read F ps i p s l e is =
     ap (λ qs. F (sizes qs)) (next_read ps i p p l e)
     ∙ ap (λ x. F (x ∷ sizes (drop (i + 1) ps))) is
 
--- one more length written
-pub length_more : (f : ℕ → ℕ) (ms : List Mm) (i : ℕ) (m : Mm) → i < length ms → ((k : ℕ) → k < i → length_at ms k ≡ f k) → m.0 ≡ f i → (k : ℕ) → k < i + 1 → length_at (set ms i m) k ≡ f k
-length_more f ms i m l below here =
-    below_more (λ k. length_at (set ms i m) k ≡ f k) i
-    (λ k h. let ne : k ≢ i = omega arith in ap (λ x. x.0) (get_or-set_other ms i k m (record { 0 = 0 }) ne) ∙ below k h)
-    (ap (λ x. x.0) (get_or-set_same ms i m (record { 0 = 0 }) l) ∙ here)
+-- one more length at the end
+pub length_more : (f : ℕ → ℕ) (ms ns : List Mm) (i : ℕ) (m : Mm) → ns ≡ ms ++ m ∷ [] → length ms ≡ i → ((k : ℕ) → k < i → length_at ms k ≡ f k) → m.0 ≡ f i → (k : ℕ) → k < i + 1 → length_at ns k ≡ f k
+length_more f ms ns i m e n below here =
+    rw e
+    (below_more (λ k. length_at (ms ++ m ∷ []) k ≡ f k) i
+    (λ k h. let l : k < length ms = omega arith in ap (λ x. x.0) (get_or_append_left ms (m ∷ []) (record { 0 = 0 }) k l) ∙ below k h)
+    (rw (← n) (ap (λ x. x.0) (get_or-append_seam ms m [] (record { 0 = 0 })) ∙ here ∙ ap f (sym n))))

@@ -6,3 +6,4 @@ pub mod Rows
 pub mod Tiles
 pub mod Laws
 pub mod Cases
+pub mod Quotas

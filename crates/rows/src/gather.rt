@@ -1,62 +1,44 @@
-// What a split needs of its parts: the sum of the fixed lengths, the weights in order, and their sum.
-ghost use Rattle.std.specs.Prelude.{◌≡◌, ℕ, ◌+◌, ◌*◌, ◌<◌, ◌≤◌, length, take};
-ghost use Rattle.rows.specs.Rows.{sizes, fixed_sum, floats, weight_at, weight_sum};
+// What a split needs of its parts: the sum of the fixed lengths, and the weights of the floating parts with their sum.
+ghost use Rattle.std.specs.Prelude.{◌≡◌};
+ghost use Rattle.bounded.specs.Listed.{listed};
+ghost use Rattle.rows.specs.Rows.{sizes, parts_of, fixed_sum, floats, weight_sum};
 
-use crate::part::Part;
+use crate::parts::Parts;
 use crate::size::Size;
+use bounded::inline::InlineVec;
 use geometry::units::{Mm, Weight};
 
 // The sum of the fixed lengths.
-pub(crate) fn fixed_sum(parts: &[Part]) -> Mm
-    requires { length parts.now ≤ 16 }
-    ensures { result.0 ≡ fixed_sum (sizes parts.now) }
+pub(crate) fn fixed_sum(parts: &Parts) -> Mm
+    ensures { result.0 ≡ fixed_sum (sizes (parts_of parts.now)) }
 {
     let mut fixed = Mm(0);
-    for part in parts {
-        match part.size {
-            Size::Fix(length) => fixed = fixed + length,
-            Size::Float(_) => {}
+    for part in parts.as_slice() {
+        if let Size::Fix(length) = part.size {
+            fixed = fixed + length;
         }
     }
     fixed
 }
 
-// The weights of the floating parts in order: the first `count` of `weights`.
+// The weights of the floating parts in order, and their sum.
 #[derive(Clone, Copy)]
-pub(crate) struct Floats {
-    pub weights: [Weight; 16],
-    pub count: usize,
+pub(crate) struct Weights {
+    pub list: InlineVec<Weight, 16>,
+    pub sum: Weight,
+    ghost sums: { sum.0 ≡ weight_sum (listed list) },
 }
 
-pub(crate) fn gather(parts: &[Part]) -> Floats
-    requires { length parts.now ≤ 16 }
-    ensures weights { take result.count result.weights ≡ floats (sizes parts.now) }
-    ensures count { result.count ≡ length (floats (sizes parts.now)) }
-    ensures few { result.count ≤ 16 }
+pub(crate) fn floating(parts: &Parts) -> Weights
+    ensures { listed result.list ≡ floats (sizes (parts_of parts.now)) }
 {
-    let mut weights = [Weight(0); 16];
-    let mut count = 0;
-    for part in parts {
-        match part.size {
-            Size::Fix(_) => {}
-            Size::Float(weight) => {
-                weights[count] = weight;
-                count += 1;
-            }
+    let mut list = InlineVec::new(Weight(0));
+    let mut sum = Weight(0);
+    for part in parts.as_slice() {
+        if let Size::Float(weight) = part.size {
+            let _ = list.push(weight);
+            sum = sum + weight;
         }
     }
-    Floats { weights, count }
-}
-
-// The sum of weights of at most 1,000 each.
-pub(crate) fn weight_sum(weights: &[Weight]) -> Weight
-    requires few { length weights.now ≤ 16 }
-    requires small { (k : ℕ) → k < length weights.now → weight_at weights.now k ≤ 1000 }
-    ensures { result.0 ≡ weight_sum weights.now }
-{
-    let mut sum = Weight(0);
-    for weight in weights {
-        sum = sum + *weight;
-    }
-    sum
+    Weights { list, sum }
 }

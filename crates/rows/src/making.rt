@@ -48,10 +48,11 @@ impl Part {
     {
         let (low, high) = range(size);
         let n = amount_of(size);
-        if n < low || n > high {
-            return None;
+        if (low..=high).contains(&n) {
+            Some(Part { size })
+        } else {
+            None
         }
-        Some(Part { size })
     }
 }
 
@@ -103,10 +104,11 @@ impl Tile {
     pub fn new(length: Mm) -> Option<Tile>
         ensures { MatchOption result (least ≤ length.0 → length.0 ≤ site → ⊥) (λ t. t.length ≡ length) }
     {
-        if length.0 < LEAST || length.0 > SITE {
-            return None;
+        if (LEAST..=SITE).contains(&length.0) {
+            Some(Tile { length })
+        } else {
+            None
         }
-        Some(Tile { length })
     }
 }
 

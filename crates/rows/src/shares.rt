@@ -1,10 +1,16 @@
 // Whole shares, remainders, ranks and lengths of floating parts.
-ghost use Rattle.std.specs.Prelude.{◌≡◌, ℕ, ◌+◌, ◌-◌, ◌*◌, ◌/◌, ◌%◌, ◌<◌, ◌≤◌, length, slice_index};
-ghost use Rattle.rows.specs.Apportion.{whole, remainder, left_over, tie, comes, before, rank_by, extra as extra_of, floating};
-ghost use Rattle.rows.specs.Rows.{weight_at, weight_sum};
+ghost use Rattle.std.specs.Prelude.{◌≡◌, ℕ, ◌+◌, ◌-◌, ◌*◌, ◌/◌, ◌%◌, ◌<◌, ◌≤◌, length, map};
+ghost use Rattle.geometry.specs.Sums.{count};
+ghost use Rattle.bounded.specs.Listed.{listed};
+ghost use Rattle.rows.specs.Apportion.{whole, left_over, tie, comes, extra as extra_of, floating as length_of};
+ghost use Rattle.rows.specs.Rows.{weight_at};
 ghost use Rattle.rows.specs.Lengths.{length_at};
+ghost use Rattle.rows.specs.Quotas.{quota, ahead};
 
+use crate::gather::Weights;
+use bounded::inline::InlineVec;
 use geometry::units::{Mm, Weight};
+use std::cmp::Ordering;
 
 // The whole share of a part and its remainder, told together: quotient and remainder of the rest times the weight by the weight sum.
 pub(crate) fn share(rest: Mm, weight: Weight, sum: Weight) -> (u32, u32)
@@ -27,21 +33,31 @@ pub(crate) fn ties(_n: usize, j: usize, i: usize) -> bool
 fn comes_before(n: usize, a: u32, j: usize, b: u32, i: usize) -> bool
     ensures { result ≡ comes tie n a j b i }
 {
-    a > b || a == b && ties(n, j, i)
+    match a.cmp(&b) {
+        Ordering::Greater => true,
+        Ordering::Equal => ties(n, j, i),
+        Ordering::Less => false,
+    }
 }
 
-// How many of the first n parts come before part i.
-fn rank_of(remainders: &[u32; 16], n: usize, i: usize) -> u32
-    requires { (n ≤ 16) × (i < n) }
-    ensures { result ≡ rank_by (before tie n (λ k. slice_index remainders.now k)) n i }
+// The whole share of a part and its remainder.
+#[derive(Clone, Copy)]
+struct Quota {
+    whole: Mm,
+    remainder: u32,
+}
+
+// How many of the parts with these quotas come before part i, of this remainder.
+fn rank_of(quotas: &InlineVec<Quota, 16>, remainder: u32, i: usize) -> u32
+    ensures { result ≡ ahead (listed quotas.now) remainder i }
 {
-    let mut rank = 0u32;
-    for j in 0..n {
-        if comes_before(n, remainders[j], j, remainders[i], i) {
-            rank += 1;
-        }
-    }
-    rank
+    let n = quotas.len();
+    quotas
+        .as_slice()
+        .iter()
+        .enumerate()
+        .filter(|(j, other)| comes_before(n, other.remainder, *j, remainder, i))
+        .count() as u32
 }
 
 // One more millimetre for a part of a rank below the millimetres left.
@@ -51,63 +67,53 @@ pub(crate) fn extra(rank: u32, left: u32) -> Mm
     if rank < left { Mm(1) } else { Mm(0) }
 }
 
-// The whole shares and remainders of the floating parts, and the millimetres left.
+// The whole shares and remainders of the floating parts in order, and the millimetres left.
 #[derive(Clone, Copy)]
 struct Shares {
-    wholes: [Mm; 16],
-    remainders: [u32; 16],
+    quotas: InlineVec<Quota, 16>,
     left: u32,
 }
 
-fn share_out(rest: Mm, weights: &[Weight], sum: Weight) -> Shares
-    requires few { length weights.now ≤ 16 }
-    requires sums { sum.0 ≡ weight_sum weights.now }
-    requires some { 0 < sum.0 }
-    ensures wholes { (k : ℕ) → k < length weights.now → length_at result.wholes k ≡ whole rest.0 (weight_at weights.now) sum.0 k }
-    ensures remainders { (k : ℕ) → k < length weights.now → slice_index result.remainders k ≡ remainder rest.0 (weight_at weights.now) sum.0 k }
-    ensures room { (k : ℕ) → k < length weights.now → length_at result.wholes k + result.left ≤ rest.0 }
-    ensures left { result.left ≡ left_over rest.0 (weight_at weights.now) sum.0 (length weights.now) }
+fn share_out(rest: Mm, weights: &Weights) -> Shares
+    requires { 0 < weights.now.sum.0 }
+    ensures quotas { listed result.quotas ≡ map (quota rest.0 weights.now.sum.0) (listed weights.now.list) }
+    ensures room { (k : ℕ) → k < length (listed weights.now.list) → whole rest.0 (weight_at (listed weights.now.list)) weights.now.sum.0 k + result.left ≤ rest.0 }
+    ensures left { result.left ≡ left_over rest.0 (weight_at (listed weights.now.list)) weights.now.sum.0 (length (listed weights.now.list)) }
 {
-    let mut wholes = [Mm(0); 16];
-    let mut remainders = [0u32; 16];
+    let blank = Quota {
+        whole: Mm(0),
+        remainder: 0,
+    };
+    let mut quotas = InlineVec::new(blank);
     let mut given = 0u64;
-    for (i, weight) in weights.iter().enumerate() {
-        let (quotient, remainder) = share(rest, *weight, sum);
-        wholes[i] = Mm(quotient);
-        remainders[i] = remainder;
+    for weight in weights.list.as_slice() {
+        let (quotient, remainder) = share(rest, *weight, weights.sum);
+        let whole = Mm(quotient);
+        let _ = quotas.push(Quota { whole, remainder });
         given += quotient as u64;
     }
     let left = (rest.0 as u64).saturating_sub(given) as u32;
-    Shares {
-        wholes,
-        remainders,
-        left,
-    }
+    Shares { quotas, left }
 }
 
-// The lengths of the floating parts, and the millimetres that were left when each had its whole share.
+// The lengths of the floating parts in order, and the millimetres that were left when each had its whole share.
 #[derive(Clone, Copy)]
 pub(crate) struct Apportioned {
-    pub lengths: [Mm; 16],
+    pub lengths: InlineVec<Mm, 16>,
     pub left: u32,
 }
 
-pub(crate) fn apportion(rest: Mm, weights: &[Weight], sum: Weight) -> Apportioned
-    requires few { length weights.now ≤ 16 }
-    requires sums { sum.0 ≡ weight_sum weights.now }
-    requires some { 0 < sum.0 }
-    ensures lengths { (k : ℕ) → k < length weights.now → length_at result.lengths k ≡ floating rest.0 (weight_at weights.now) sum.0 (length weights.now) k }
-    ensures size { length result.lengths ≡ 16 }
-    ensures left { result.left ≡ left_over rest.0 (weight_at weights.now) sum.0 (length weights.now) }
+pub(crate) fn apportion(rest: Mm, weights: &Weights) -> Apportioned
+    requires { 0 < weights.now.sum.0 }
+    ensures lengths { (k : ℕ) → k < length (listed weights.now.list) → length_at (listed result.lengths) k ≡ length_of rest.0 (weight_at (listed weights.now.list)) weights.now.sum.0 (length (listed weights.now.list)) k }
+    ensures count { length (listed result.lengths) ≡ length (listed weights.now.list) }
+    ensures left { result.left ≡ left_over rest.0 (weight_at (listed weights.now.list)) weights.now.sum.0 (length (listed weights.now.list)) }
 {
-    let n = weights.len();
-    let shares = share_out(rest, weights, sum);
-    let mut lengths = [Mm(0); 16];
-    for i in 0..n {
-        lengths[i] = shares.wholes[i] + extra(rank_of(&shares.remainders, n, i), shares.left);
+    let Shares { quotas, left } = share_out(rest, weights);
+    let mut lengths = InlineVec::new(Mm(0));
+    for (i, quota) in quotas.as_slice().iter().enumerate() {
+        let rank = rank_of(&quotas, quota.remainder, i);
+        let _ = lengths.push(quota.whole + extra(rank, left));
     }
-    Apportioned {
-        lengths,
-        left: shares.left,
-    }
+    Apportioned { lengths, left }
 }

@@ -6,8 +6,7 @@ ghost use Rattle.rows.specs.Lengths.{length_at};
 ghost use Rattle.rows.specs.Rows.{sizes, parts_of, filled, split_row, told, told_of};
 ghost use Rattle.rows.specs.Laws.{Lawful};
 
-use crate::gather::{fixed_sum, gather, weight_sum};
-use crate::part::Part;
+use crate::gather::{fixed_sum, floating};
 use crate::parts::Parts;
 use crate::refusal::RowRefusal;
 use crate::row::{Row, Segment};
@@ -38,13 +37,12 @@ fn next_length(lengths: &mut Iter<'_, Mm>) -> Mm
 }
 
 // The row in which the floating parts have the given lengths in order; refused where one of them is too short.
-fn fill(parts: &[Part], lengths: &[Mm]) -> Result<Row, RowRefusal>
-    requires { length parts.now ≤ 16 }
-    ensures { told_of result ≡ filled (length_at lengths.now) (sizes parts.now) }
+fn fill(parts: &Parts, lengths: &[Mm]) -> Result<Row, RowRefusal>
+    ensures { told_of result ≡ filled (length_at lengths.now) (sizes (parts_of parts.now)) }
 {
     let mut floating = lengths.iter();
     let mut segments = InlineVec::new(Segment { length: Mm(0) });
-    for (i, part) in parts.iter().enumerate() {
+    for (i, part) in parts.as_slice().iter().enumerate() {
         let length = match part.size {
             Size::Fix(length) => length,
             Size::Float(_) => thick(next_length(&mut floating), i)?,
@@ -54,35 +52,27 @@ fn fill(parts: &[Part], lengths: &[Mm]) -> Result<Row, RowRefusal>
     Ok(Row { segments })
 }
 
-fn split_parts(extent: Mm, parts: &[Part]) -> Result<Row, RowRefusal>
-    requires { length parts.now ≤ 16 }
-    ensures { told_of result ≡ split_row extent.0 (sizes parts.now) }
+// The row of a split in a scope of that length.
+pub fn split(extent: Mm, parts: &Parts) -> Result<Row, RowRefusal>
+    ensures row { told_of result ≡ split_row extent.0 (sizes (parts_of parts.now)) }
+    ensures laws { IfOk result (λ row. Lawful extent.0 (sizes (parts_of parts.now)) (told row)) }
 {
     let fixed = fixed_sum(parts);
     if fixed.0 > extent.0 {
         return Err(RowRefusal::FixedTooLong);
     }
     let rest = extent - fixed;
-    let floating = gather(parts);
-    let n = floating.count;
+    let weights = floating(parts);
+    let n = weights.list.len();
     if n == 0 {
         if rest.0 > 0 {
             return Err(RowRefusal::NothingFloats);
         }
         return fill(parts, &[]);
     }
-    let weights = &floating.weights[0..n];
-    let shared = apportion(rest, weights, weight_sum(weights));
+    let shared = apportion(rest, &weights);
     if shared.left as usize > n {
         return Err(RowRefusal::SpareLeft);
     }
-    fill(parts, &shared.lengths)
-}
-
-// The row of a split in a scope of that length.
-pub fn split(extent: Mm, parts: &Parts) -> Result<Row, RowRefusal>
-    ensures row { told_of result ≡ split_row extent.0 (sizes (parts_of parts.now)) }
-    ensures laws { IfOk result (λ row. Lawful extent.0 (sizes (parts_of parts.now)) (told row)) }
-{
-    split_parts(extent, parts.as_slice())
+    fill(parts, shared.lengths.as_slice())
 }

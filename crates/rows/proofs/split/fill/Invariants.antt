@@ -7,4 +7,4 @@ use Rattle.rows.proofs.Fills.{Laying}
 use Rattle.rows.proofs.split.fill.Given as goal
 
 abbrev pub invariant-loop-i : goal.invariant-loop-i
-invariant-loop-i l = Laying (length_at l.lengths) (sizes l.parts) (listed l.segments) l.i (length_at (iter_rest l.floating)) (sizes (drop l.i l.parts))
+invariant-loop-i l = Laying (length_at l.lengths) (sizes l.part-items) (listed l.segments) l.i (length_at (iter_rest l.floating)) (sizes (drop l.i l.part-items))
