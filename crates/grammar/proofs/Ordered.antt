@@ -1,5 +1,6 @@
 -- A test on numbers and names finds nothing in a spelling just if they are in order.
 use Rattle.std.proofs.Common.{◌≡◌, ℕ, ◌-◌, ◌≤◌, Bool, true, false, cond, not, ◌&&◌, ltb, List, [], ◌∷◌, length, is_some, Some, None, Option, sym, refl, ap, ◌∙◌, subst, arith}
+use Rattle.std.proofs.Math.Bool.{and-true, and_assoc}
 use Rattle.std.proofs.lemmas.Bool.{lt-ltb, cond-false}
 use Rattle.text.specs.Tokens.{Lexeme, closing, number, word}
 use Rattle.grammar.proofs.Accepts.{then}
@@ -64,13 +65,8 @@ passed : (a b : Bool) → cond (not a) false b ≡ (a && b)
 passed true b = refl
 passed false b = refl
 
-and_true : (a : Bool) → (a && true) ≡ a
-and_true true = refl
-and_true false = refl
-
-assoc : (a b c : Bool) → (a && (b && c)) ≡ ((a && b) && c)
-assoc true b c = refl
-assoc false b c = refl
+flat : (a b c : Bool) → (a && (b && c)) ≡ ((a && b) && c)
+flat a b c = sym (and_assoc a b c)
 
 -- seven tests one after the other
 chain : (a b c d e f g : Bool)
@@ -101,7 +97,7 @@ module _ (N : ℕ × ℕ → List ℕ → Bool) (M : Naming → List ℕ → Boo
       → ok (num r.0 r.1 ∷ name n ∷ shut ∷ xs) (number v ∷ word w ∷ closing ∷ us) ≡ ((N r v && M n w) && ok xs us)
   ok_both r n v w xs us =
       ok_number r v (name n ∷ shut ∷ xs) (word w ∷ closing ∷ us)
-      ∙ (ap (λ b. N r v && b) (ok_name n w (shut ∷ xs) (closing ∷ us)) ∙ assoc (N r v) (M n w) (ok xs us))
+      ∙ (ap (λ b. N r v && b) (ok_name n w (shut ∷ xs) (closing ∷ us)) ∙ flat (N r v) (M n w) (ok xs us))
 
   ok_axis : (a : Axis) (xs : List Want) (us : List Lexeme) → ok (axis ∷ xs) (word (axis_text a) ∷ us) ≡ ok xs us
   ok_axis x_axis xs us = refl
@@ -121,7 +117,7 @@ module _ (N : ℕ × ℕ → List ℕ → Bool) (M : Naming → List ℕ → Boo
   ok_more [] xs us = refl
   ok_more (p ∷ ps) xs us =
       ok_part p xs (spell_parts ps (closing ∷ us))
-      ∙ (ap (λ b. ordered_part N M p && b) (ok_more ps xs us) ∙ assoc (ordered_part N M p) (ordered_parts N M ps) (ok xs us))
+      ∙ (ap (λ b. ordered_part N M p && b) (ok_more ps xs us) ∙ flat (ordered_part N M p) (ordered_parts N M ps) (ok xs us))
 
   ok_body_lem : (k : ℕ) (b : Body) (xs : List Want) (us : List Lexeme) → ok (items k ∷ xs) (spell_body b us) ≡ (ordered_body N M b && ok xs us)
   ok_body_lem k (make w) xs us = ok_name Material w (shut ∷ xs) (closing ∷ us)
@@ -131,7 +127,7 @@ module _ (N : ℕ × ℕ → List ℕ → Bool) (M : Naming → List ℕ → Boo
   ok_body_lem k (split a p ps) xs us =
       ok_axis a (parts ∷ xs) (spell_part p (spell_parts ps (closing ∷ us)))
       ∙ (ok_first p xs (spell_parts ps (closing ∷ us))
-      ∙ (ap (λ b. ordered_part N M p && b) (ok_more ps xs us) ∙ assoc (ordered_part N M p) (ordered_parts N M ps) (ok xs us)))
+      ∙ (ap (λ b. ordered_part N M p && b) (ok_more ps xs us) ∙ flat (ordered_part N M p) (ordered_parts N M ps) (ok xs us)))
 
   -- a guard where there may be one
   ok_guard : (k : ℕ) (a : Axis) (l h : List ℕ) (xs : List Want) (us : List Lexeme) → ltb 0 k ≡ true
@@ -157,10 +153,10 @@ module _ (N : ℕ × ℕ → List ℕ → Bool) (M : Naming → List ℕ → Boo
       ∙ regroup (N (1, site) l) (N (low_of l, site) u) (ordered_guards N M gs) (ordered_body N M b) (ok xs us))
 
   ok_form : (k : FileKind) (f : Form) → Fits k f → ok (form k ∷ []) (spell f) ≡ ordered N M f
-  ok_form Rules (material w) h = ok_name Declared w (shut ∷ []) (closing ∷ []) ∙ and_true (M Declared w)
+  ok_form Rules (material w) h = ok_name Declared w (shut ∷ []) (closing ∷ []) ∙ and-true (M Declared w)
   ok_form Rules (rule w gs b) h =
       ok_name Own w (items 3 ∷ shut ∷ []) (spell_guards gs (spell_body b (closing ∷ [])))
-      ∙ ap (λ t. M Own w && t) (ok_items 3 gs b (shut ∷ []) (closing ∷ []) h ∙ and_true (ordered_guards N M gs && ordered_body N M b))
+      ∙ ap (λ t. M Own w && t) (ok_items 3 gs b (shut ∷ []) (closing ∷ []) h ∙ and-true (ordered_guards N M gs && ordered_body N M b))
   ok_form Rules (lot px py pz sx sy sz w) h = absurd h
   ok_form Lots (material w) h = absurd h
   ok_form Lots (rule w gs b) h = absurd h

@@ -1,5 +1,6 @@
 -- A line is found without fault just if it is acceptable.
-use Rattle.std.proofs.Common.{◌≡◌, ℕ, ◌+◌, ◌-◌, ◌<◌, ◌≤◌, Bool, true, false, cond, not, ltb, List, [], ◌∷◌, length, get_or, is_some, Some, None, Option, sym, refl, ap, ◌∙◌, inl, inr, ⊎_elim, arith}
+use Rattle.std.proofs.Common.{◌≡◌, ℕ, ◌+◌, ◌-◌, ◌<◌, ◌≤◌, true, false, cond, not, ltb, List, [], ◌∷◌, length, get_or, is_some, Some, None, Option, sym, refl, ap, ◌∙◌, inl, inr, ⊎_elim, arith}
+use Rattle.std.proofs.lemmas.Option.{none-some}
 use Rattle.std.proofs.lemmas.Bool.{ltb-false, le-ltb, cond-false, cases_Bool, not-false, both_ways}
 use Rattle.text.proofs.Blank.{blank_decides}
 use Rattle.text.proofs.Found.{first_found}
@@ -9,7 +10,7 @@ use Rattle.text.specs.Lines.{is_blank}
 use Rattle.text.specs.Tokens.{Lexeme, tokens_of}
 use Rattle.text.specs.Words.{good_name}
 use Rattle.text.specs.declared.placed.Placed.{Placed}
-use Rattle.grammar.proofs.Accepts.{never, then, Found, found as stopped, whole, runs_form}
+use Rattle.grammar.proofs.Accepts.{then, Found, found as stopped, whole, runs_form}
 use Rattle.grammar.proofs.Ordered.{tells}
 use Rattle.grammar.specs.Forms.{Form, spell, spell_form, plain}
 use Rattle.grammar.specs.Orders.{good_numbers, good_names}
@@ -37,37 +38,33 @@ pub record NoneOf (a b c d e f : Option ℕ) : Type 0 where
   pub naming : f ≡ None
 
 all_none : (n : ℕ) (a b c d e f : Option ℕ) → first_of n a b c d e f ≡ None → NoneOf a b c d e f
-all_none n (Some x) b c d e f q = absurd (never _ (sym q))
-all_none n None (Some x) c d e f q = absurd (never _ (sym q))
-all_none n None None (Some x) d e f q = absurd (never _ (sym q))
-all_none n None None None (Some x) e f q = absurd (never _ (sym q))
-all_none n None None None None (Some x) f q = absurd (never _ (sym q))
-all_none n None None None None None (Some x) q = absurd (never _ (sym q))
+all_none n (Some x) b c d e f q = absurd (none-some _ (sym q))
+all_none n None (Some x) c d e f q = absurd (none-some _ (sym q))
+all_none n None None (Some x) d e f q = absurd (none-some _ (sym q))
+all_none n None None None (Some x) e f q = absurd (none-some _ (sym q))
+all_none n None None None None (Some x) f q = absurd (none-some _ (sym q))
+all_none n None None None None None (Some x) q = absurd (none-some _ (sym q))
 all_none n None None None None None None q = record { long = refl; byte = refl; bracket = refl; place = refl; figure = refl; naming = refl }
 
 none_all : (n : ℕ) (a b c d e f : Option ℕ) → NoneOf a b c d e f → first_of n a b c d e f ≡ None
-none_all n (Some x) b c d e f h = absurd (never x (sym h.long))
-none_all n None (Some x) c d e f h = absurd (never x (sym h.byte))
-none_all n None None (Some x) d e f h = absurd (never x (sym h.bracket))
-none_all n None None None (Some x) e f h = absurd (never x (sym h.place))
-none_all n None None None None (Some x) f h = absurd (never x (sym h.figure))
-none_all n None None None None None (Some x) h = absurd (never x (sym h.naming))
+none_all n (Some x) b c d e f h = absurd (none-some x (sym h.long))
+none_all n None (Some x) c d e f h = absurd (none-some x (sym h.byte))
+none_all n None None (Some x) d e f h = absurd (none-some x (sym h.bracket))
+none_all n None None None (Some x) e f h = absurd (none-some x (sym h.place))
+none_all n None None None None (Some x) f h = absurd (none-some x (sym h.figure))
+none_all n None None None None None (Some x) h = absurd (none-some x (sym h.naming))
 none_all n None None None None None None h = refl
 
 none_from : (o : Option ℕ) → is_some o ≡ false → o ≡ None
 none_from (Some x) e = absurd (both_ways true e refl)
 none_from None e = refl
 
-flip : (b : Bool) → false ≡ not b → b ≡ true
-flip true e = refl
-flip false e = absurd (both_ways true (sym e) refl)
-
 -- each finding in plain words
 
 short : (l : List ℕ) → too_long l ≡ None → length l ≤ line_limit
 short l e =
     (elim (ltb line_limit (length l)) as (λ t. ltb line_limit (length l) ≡ t → cond t (Some (line_limit + 1)) None ≡ None → length l ≤ line_limit)
-    [ true ↦ λ q e. absurd (never _ (sym e)) | false ↦ λ q e. ltb-false line_limit (length l) q ]) refl e
+    [ true ↦ λ q e. absurd (none-some _ (sym e)) | false ↦ λ q e. ltb-false line_limit (length l) q ]) refl e
 
 not_long : (l : List ℕ) → length l ≤ line_limit → too_long l ≡ None
 not_long l h = cond-false _ _ _ (le-ltb line_limit (length l) h)
@@ -85,10 +82,10 @@ all_fit [] xs ys e = refl
 all_fit (p ∷ ps) xs ys e =
     (elim (step xs p.0) as (λ o. then o (plain ps) ≡ Some ys
     → cond (not (is_some o)) (Some p.1) (elim o [ None ↦ None | Some zs ↦ first_at misplaced zs ps ]) ≡ None)
-    [ None ↦ λ e. absurd (never ys e) | Some zs ↦ λ e. all_fit ps zs ys e ]) e
+    [ None ↦ λ e. absurd (none-some ys e) | Some zs ↦ λ e. all_fit ps zs ys e ]) e
 
 stop_none : (xs : List Want) (ps : List (Lexeme × ℕ)) (r : Option ℕ) → Found xs ps r → r ≡ None → (ys : List Want) × (run xs (plain ps) ≡ Some ys)
-stop_none xs ps (Some c) f e = absurd (never c (sym e))
+stop_none xs ps (Some c) f e = absurd (none-some c (sym e))
 stop_none xs ps None f e = f
 
 plain_none : (ps : List (Lexeme × ℕ)) → plain ps ≡ [] → ps ≡ []
@@ -107,7 +104,7 @@ module _ (k : FileKind) (l : List ℕ) where
   sound : NoneHere → is_blank l ≡ false → Sound k l
   sound h n =
       let some : plain ps ≡ [] → ⊥ = λ e. both_ways (is_blank l) n ((blank_decides l (is_blank l) refl).1 (plain_none ps e)) in
-      let b : balanced 0 (plain ps) ≡ true = flip (balanced 0 (plain ps)) (ap is_some (sym h.bracket) ∙ brackets l) in
+      let b : balanced 0 (plain ps) ≡ true = not-false (balanced 0 (plain ps)) (sym (ap is_some (sym h.bracket) ∙ brackets l)) in
       let s = stop_none (form k ∷ []) ps (first_at misplaced (form k ∷ []) ps) (stopped ps (form k ∷ [])) h.place in
       let w = whole (plain ps) (form k ∷ []) (s.1 ∙ ap Some (nothing_left k (plain ps) s.0 some b s.1)) in
       let f : Form = w.1.0 in
@@ -115,8 +112,8 @@ module _ (k : FileKind) (l : List ℕ) where
         f,
         w.1.1,
         e,
-        flip (good_numbers f) (ap is_some (sym h.figure) ∙ tells inside (λ n w. true) k ps _ refl f w.1.1 e),
-        flip (good_names f) (ap is_some (sym h.naming) ∙ tells (λ r w. true) (λ n w. good_name w) k ps _ refl f w.1.1 e),
+        not-false (good_numbers f) (sym (ap is_some (sym h.figure) ∙ tells inside (λ n w. true) k ps _ refl f w.1.1 e)),
+        not-false (good_names f) (sym (ap is_some (sym h.naming) ∙ tells (λ r w. true) (λ n w. good_name w) k ps _ refl f w.1.1 e)),
       )
 
   -- a blank line has no fault by its tokens

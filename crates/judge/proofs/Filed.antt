@@ -1,9 +1,9 @@
 -- A file has no fault just if its lines are in order.
 use Rattle.std.proofs.Common.{◌≡◌, ℕ, ◌+◌, Bool, true, false, cond, List, [], ◌∷◌, Some, None, Option, sym, refl, ap, ◌∙◌, inl, inr, ⊎_elim}
+use Rattle.std.proofs.lemmas.Option.{none-some}
 use Rattle.text.specs.Findings.{or_else}
 use Rattle.text.specs.Lines.{is_blank}
 use Rattle.text.specs.declared.placed.Placed.{Placed}
-use Rattle.grammar.proofs.Accepts.{never}
 use Rattle.grammar.specs.Forms.{Form}
 use Rattle.grammar.specs.declared.state.FileKind.{FileKind}
 use Rattle.judge.proofs.Accepted.{accepts}
@@ -12,19 +12,19 @@ use Rattle.judge.specs.Judged.{found, judged, Acceptable}
 use Rattle.judge.specs.declared.faults.Fault.{Fault}
 
 pub first_none : {X : Type 0} (a b : Option X) → or_else a b ≡ None → (a ≡ None) × (b ≡ None)
-first_none (Some x) b e = absurd (never x (sym e))
+first_none (Some x) b e = absurd (none-some x (sym e))
 first_none None b e = (refl, e)
 
 pub both_none : {X : Type 0} (a b : Option X) → a ≡ None → b ≡ None → or_else a b ≡ None
 both_none a b p q = ap (λ o. or_else o b) p ∙ q
 
 pub found_none : (f : Fault) (n : ℕ) (o : Option ℕ) → found f n o ≡ None → o ≡ None
-found_none f n (Some c) e = absurd (never _ (sym e))
+found_none f n (Some c) e = absurd (none-some _ (sym e))
 found_none f n None e = refl
 
 -- a file that is not refused as a whole
 pub whole_none : (a : Bool) (f : Fault) (y : Option (Placed Fault)) → cond a (whole_file f) y ≡ None → (a ≡ false) × (y ≡ None)
-whole_none true f y e = absurd (never _ (sym e))
+whole_none true f y e = absurd (none-some _ (sym e))
 whole_none false f y e = (refl, e)
 
 -- the judgement of a line after others begins with that of the line by itself, and then looks at its form

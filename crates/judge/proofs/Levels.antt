@@ -1,12 +1,13 @@
 -- What is still wanted, against the brackets that are open.
 use Rattle.std.proofs.Common.{◌≡◌, ℕ, ◌+◌, ◌-◌, Bool, true, false, cond, ltb, List, [], ◌∷◌, ◌++◌, Some, None, codes, Option, sym, refl, ap, ◌∙◌, subst, arith}
+use Rattle.std.proofs.lemmas.Option.{none-some}
 use Rattle.std.proofs.lemmas.List.{append-nil}
 use Rattle.std.proofs.lemmas.Bool.{false≢true, eqb-true, and_parts}
 use Rattle.std.specs.Str.{bytes_eq}
 use Rattle.text.specs.Findings.{levels}
 use Rattle.text.specs.Tokens.{Lexeme, opening, closing, number, word}
 use Rattle.text.specs.Words.{is_axis}
-use Rattle.grammar.proofs.Accepts.{never, then}
+use Rattle.grammar.proofs.Accepts.{then}
 use Rattle.geometry.specs.Limits.{site}
 use Rattle.grammar.specs.Wants.{Want, form, head, name, num, range, axis, shut, items, item, parts, more, part, low_of, at_opening, at_closing, at_number, at_word, head_wants, item_wants, part_wants, expand, onto, run}
 use Rattle.grammar.specs.declared.state.FileKind.{FileKind}
@@ -89,9 +90,9 @@ head_owing : (k : FileKind) (w : List ℕ) (zs : List Want) → head_wants k w �
 unfolding Owing
 head_owing Rules w zs e =
     way Owing (bytes_eq w (codes "material")) _ _ zs e (same Owing _ zs (refl, refl))
-    (λ e. way Owing (bytes_eq w (codes "rule")) _ _ zs e (same Owing _ zs (refl, refl)) (λ e. absurd (never zs e)))
+    (λ e. way Owing (bytes_eq w (codes "rule")) _ _ zs e (same Owing _ zs (refl, refl)) (λ e. absurd (none-some zs e)))
 head_owing Lots w zs e =
-    way Owing (bytes_eq w (codes "lot")) _ _ zs e (same Owing _ zs (refl, refl)) (λ e. absurd (never zs e))
+    way Owing (bytes_eq w (codes "lot")) _ _ zs e (same Owing _ zs (refl, refl)) (λ e. absurd (none-some zs e))
 
 abbrev One : List Want → Type 0
 One zs = owes zs ≡ 1
@@ -99,42 +100,42 @@ One zs = owes zs ≡ 1
 item_owes : (k : ℕ) (w : List ℕ) (zs : List Want) → item_wants k w ≡ Some zs → owes zs ≡ 1
 item_owes k w zs e =
     way One (bytes_eq w (codes "when")) _ _ zs e
-    (λ e. way One (ltb 0 k) _ _ zs e (same One _ zs refl) (λ e. absurd (never zs e)))
+    (λ e. way One (ltb 0 k) _ _ zs e (same One _ zs refl) (λ e. absurd (none-some zs e)))
     (λ e. way One (bytes_eq w (codes "make")) _ _ zs e (same One _ zs refl)
     (λ e. way One (bytes_eq w (codes "use")) _ _ zs e (same One _ zs refl)
     (λ e. way One (bytes_eq w (codes "repeat")) _ _ zs e (same One _ zs refl)
-    (λ e. way One (bytes_eq w (codes "split")) _ _ zs e (same One _ zs refl) (λ e. absurd (never zs e))))))
+    (λ e. way One (bytes_eq w (codes "split")) _ _ zs e (same One _ zs refl) (λ e. absurd (none-some zs e))))))
 
 part_owes : (w : List ℕ) (zs : List Want) → part_wants w ≡ Some zs → owes zs ≡ 1
 part_owes w zs e =
     way One (bytes_eq w (codes "fix")) _ _ zs e (same One _ zs refl)
-    (λ e. way One (bytes_eq w (codes "float")) _ _ zs e (same One _ zs refl) (λ e. absurd (never zs e)))
+    (λ e. way One (bytes_eq w (codes "float")) _ _ zs e (same One _ zs refl) (λ e. absurd (none-some zs e)))
 
 -- each kind of lexeme, where it fits
 
 w_open : (t : Lexeme) (ys zs : List Want) (a : ℕ) → at_opening ys t ≡ Some zs → owes ys ≡ a + 1 → Weighs t a (owes zs)
 w_open opening ys zs a e h = same (λ v. owes v ≡ a + 1) ys zs h e
-w_open closing ys zs a e h = absurd (never zs e)
-w_open (number w) ys zs a e h = absurd (never zs e)
-w_open (word w) ys zs a e h = absurd (never zs e)
+w_open closing ys zs a e h = absurd (none-some zs e)
+w_open (number w) ys zs a e h = absurd (none-some zs e)
+w_open (word w) ys zs a e h = absurd (none-some zs e)
 
 w_close : (t : Lexeme) (ys zs : List Want) (a : ℕ) → at_closing ys t ≡ Some zs → a ≡ owes ys + 1 → Weighs t a (owes zs)
-w_close opening ys zs a e h = absurd (never zs e)
+w_close opening ys zs a e h = absurd (none-some zs e)
 w_close closing ys zs a e h = same (λ v. a ≡ owes v + 1) ys zs h e
-w_close (number w) ys zs a e h = absurd (never zs e)
-w_close (word w) ys zs a e h = absurd (never zs e)
+w_close (number w) ys zs a e h = absurd (none-some zs e)
+w_close (word w) ys zs a e h = absurd (none-some zs e)
 
 w_number : (t : Lexeme) (f : List ℕ → List Want) (zs : List Want) (a : ℕ) → at_number f t ≡ Some zs → ((w : List ℕ) → owes (f w) ≡ a) → Weighs t a (owes zs)
-w_number opening f zs a e h = absurd (never zs e)
-w_number closing f zs a e h = absurd (never zs e)
+w_number opening f zs a e h = absurd (none-some zs e)
+w_number closing f zs a e h = absurd (none-some zs e)
 w_number (number w) f zs a e h = same (λ v. owes v ≡ a) (f w) zs (h w) e
-w_number (word w) f zs a e h = absurd (never zs e)
+w_number (word w) f zs a e h = absurd (none-some zs e)
 
 w_word : (t : Lexeme) (f : List ℕ → Option (List Want)) (zs : List Want) (a : ℕ) → at_word f t ≡ Some zs
     → ((w : List ℕ) → f w ≡ Some zs → owes zs ≡ a) → Weighs t a (owes zs)
-w_word opening f zs a e h = absurd (never zs e)
-w_word closing f zs a e h = absurd (never zs e)
-w_word (number w) f zs a e h = absurd (never zs e)
+w_word opening f zs a e h = absurd (none-some zs e)
+w_word closing f zs a e h = absurd (none-some zs e)
+w_word (number w) f zs a e h = absurd (none-some zs e)
 w_word (word w) f zs a e h = h w e
 
 weighs : (x : Want) (t : Lexeme) (zs : List Want) → expand x t ≡ Some zs → Weighs t (owe x) (owes zs)
@@ -146,15 +147,15 @@ weighs (num lo hi) t zs e = w_number t (λ w. []) zs 0 e (λ w. refl)
 weighs range t zs e = w_number t (λ w. num (low_of w) site ∷ []) zs 0 e (λ w. refl)
 weighs axis t zs e =
     w_word t (λ w. cond (is_axis w) (Some []) None) zs 0 e
-    (λ w q. way (λ v. owes v ≡ 0) (is_axis w) _ _ zs q (same (λ v. owes v ≡ 0) [] zs refl) (λ e. absurd (never zs e)))
+    (λ w q. way (λ v. owes v ≡ 0) (is_axis w) _ _ zs q (same (λ v. owes v ≡ 0) [] zs refl) (λ e. absurd (none-some zs e)))
 weighs shut t zs e = w_close t [] zs 1 e refl
 weighs (items k) t zs e = w_open t (item k ∷ []) zs 0 e refl
 weighs (item k) t zs e = w_word t (item_wants k) zs 1 e (λ w q. item_owes k w zs q)
 weighs parts t zs e = w_open t (part ∷ more ∷ []) zs 1 e refl
 weighs more opening zs e = w_open opening (part ∷ more ∷ []) zs 1 e refl
 weighs more closing zs e = w_close closing [] zs 1 e refl
-weighs more (number w) zs e = absurd (never zs e)
-weighs more (word w) zs e = absurd (never zs e)
+weighs more (number w) zs e = absurd (none-some zs e)
+weighs more (word w) zs e = absurd (none-some zs e)
 weighs part t zs e = w_word t part_wants zs 1 e (λ w q. part_owes w zs q)
 
 -- one lexeme more leaves what is owed open
@@ -168,10 +169,10 @@ after (word w) ts a b o h e = let q : b + o ≡ a + o = omega arith in ap (λ d.
 
 bal_run : (ts : List Lexeme) (xs ys : List Want) → balanced (owes xs) ts ≡ true → run xs ts ≡ Some ys → owes ys ≡ 0
 bal_run [] xs ys b e = let q : xs ≡ ys = cc in sym (ap owes q) ∙ eqb-true (owes xs) 0 b
-bal_run (t ∷ ts) [] ys b e = absurd (never ys e)
+bal_run (t ∷ ts) [] ys b e = absurd (none-some ys e)
 bal_run (t ∷ ts) (x ∷ xs) ys b e =
     (elim (expand x t) as (λ o. expand x t ≡ o → then (onto o xs) ts ≡ Some ys → owes ys ≡ 0) [
-      | None ↦ λ q e. absurd (never ys e)
+      | None ↦ λ q e. absurd (none-some ys e)
       | Some zs ↦ λ q e.
           bal_run ts (zs ++ xs) ys
           (ap (λ d. balanced d ts) (owes_append zs xs) ∙ after t ts (owe x) (owes zs) (owes xs) (weighs x t zs q) b) e
@@ -185,16 +186,16 @@ closes_append (z ∷ []) y ys = refl
 closes_append (z ∷ x ∷ zs) y ys = closes_append (x ∷ zs) y ys
 
 shut_closes : (t : Lexeme) (zs : List Want) → at_closing [] t ≡ Some zs → closes zs ≡ true
-shut_closes opening zs e = absurd (never zs e)
+shut_closes opening zs e = absurd (none-some zs e)
 shut_closes closing zs e = same (λ v. closes v ≡ true) [] zs refl e
-shut_closes (number w) zs e = absurd (never zs e)
-shut_closes (word w) zs e = absurd (never zs e)
+shut_closes (number w) zs e = absurd (none-some zs e)
+shut_closes (word w) zs e = absurd (none-some zs e)
 
 head_closes : (k : FileKind) (t : Lexeme) (zs : List Want) → at_word (head_wants k) t ≡ Some zs → closes zs ≡ true
 unfolding Owing
-head_closes k opening zs e = absurd (never zs e)
-head_closes k closing zs e = absurd (never zs e)
-head_closes k (number w) zs e = absurd (never zs e)
+head_closes k opening zs e = absurd (none-some zs e)
+head_closes k closing zs e = absurd (none-some zs e)
+head_closes k (number w) zs e = absurd (none-some zs e)
 head_closes k (word w) zs e = (head_owing k w zs e).1
 
 closes_one : (x : Want) (t : Lexeme) (zs : List Want) → ends x ≡ true → expand x t ≡ Some zs → closes zs ≡ true
@@ -217,10 +218,10 @@ closes_step x (y ∷ ys) t zs h e = closes_append zs y ys ∙ h
 
 closes_run : (ts : List Lexeme) (xs ys : List Want) → closes xs ≡ true → run xs ts ≡ Some ys → closes ys ≡ true
 closes_run [] xs ys h e = let q : xs ≡ ys = cc in sym (ap closes q) ∙ h
-closes_run (t ∷ ts) [] ys h e = absurd (never ys e)
+closes_run (t ∷ ts) [] ys h e = absurd (none-some ys e)
 closes_run (t ∷ ts) (x ∷ xs) ys h e =
     (elim (expand x t) as (λ o. expand x t ≡ o → then (onto o xs) ts ≡ Some ys → closes ys ≡ true)
-    [ None ↦ λ q e. absurd (never ys e) | Some zs ↦ λ q e. closes_run ts (zs ++ xs) ys (closes_step x xs t zs h q) e ]) refl e
+    [ None ↦ λ q e. absurd (none-some ys e) | Some zs ↦ λ q e. closes_run ts (zs ++ xs) ys (closes_step x xs t zs h q) e ]) refl e
 
 ends_owe : (x : Want) → ends x ≡ true → owe x ≡ 1
 ends_owe (form k) h = absurd (false≢true h)
@@ -247,6 +248,6 @@ finished (x ∷ y ∷ ys) h e =
 pub nothing_left : (k : FileKind) (ts : List Lexeme) (ys : List Want) → (ts ≡ [] → ⊥) → balanced 0 ts ≡ true → run (form k ∷ []) ts ≡ Some ys → ys ≡ []
 nothing_left k [] ys n b e = absurd (n refl)
 nothing_left k (opening ∷ ts) ys n b e = finished ys (closes_run ts (head k ∷ []) ys refl e) (bal_run (opening ∷ ts) (form k ∷ []) ys b e)
-nothing_left k (closing ∷ ts) ys n b e = absurd (never ys e)
-nothing_left k (number w ∷ ts) ys n b e = absurd (never ys e)
-nothing_left k (word w ∷ ts) ys n b e = absurd (never ys e)
+nothing_left k (closing ∷ ts) ys n b e = absurd (none-some ys e)
+nothing_left k (number w ∷ ts) ys n b e = absurd (none-some ys e)
+nothing_left k (word w ∷ ts) ys n b e = absurd (none-some ys e)

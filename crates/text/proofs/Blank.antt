@@ -1,20 +1,8 @@
 -- A line has no token just if it is blank.
-use Rattle.std.proofs.Common.{◌≡◌, ℕ, ◌+◌, ◌<◌, ◌≤◌, Bool, true, false, cond, ◌&&◌, eqb, List, [], ◌∷◌, ◌++◌, length, get_or, drop, Decides, sym, refl, ap, ◌∙◌, arith}
-use Rattle.std.proofs.lemmas.List.{at_drop_more, at_drop_all}
+use Rattle.std.proofs.Common.{◌≡◌, ℕ, ◌+◌, Bool, true, false, cond, ◌&&◌, eqb, List, [], ◌∷◌, ◌++◌, length, Decides, sym, refl, ap, ◌∙◌, arith}
 use Rattle.text.specs.Bytes.{is_space}
 use Rattle.text.specs.Lines.{is_blank}
 use Rattle.text.specs.Tokens.{Lexeme, opening, closing, ended, lexed, tokens_of}
-
--- one byte more of the pass
-
-pub blank_more : (xs : List ℕ) (i : ℕ) → i < length xs → is_space (get_or xs i 0) ≡ true → is_blank (drop i xs) ≡ is_blank (drop (i + 1) xs)
-blank_more xs i h e = at_drop_more is_blank xs i 0 h ∙ ap (λ t. t && is_blank (drop (i + 1) xs)) e
-
-pub blank_stop : (xs : List ℕ) (i : ℕ) → i < length xs → is_space (get_or xs i 0) ≡ false → is_blank (drop i xs) ≡ false
-blank_stop xs i h e = at_drop_more is_blank xs i 0 h ∙ ap (λ t. t && is_blank (drop (i + 1) xs)) e
-
-pub blank_end : (xs : List ℕ) (i : ℕ) → length xs ≤ i → is_blank (drop i xs) ≡ true
-blank_end xs i h = at_drop_all is_blank xs i h
 
 ended_some : (k a : ℕ) (acc : List ℕ) (ps : List (Lexeme × ℕ)) → ended k (a ∷ acc) ++ ps ≡ [] → ⊥
 ended_some k a acc ps e = omega (arith, ap length e)

@@ -1,7 +1,7 @@
 -- One byte more of a line's lexemes.
 use Rattle.std.proofs.Common.{◌≡◌, ℕ, ◌+◌, ◌-◌, ◌<◌, ◌≤◌, Bool, true, false, cond, not, ◌||◌, eqb, List, [], ◌∷◌, ◌++◌, length, get_or, take, drop, Some, None, Option, sym, refl, ap, ◌∙◌, ⊎_elim, add-zero, arith}
 use Rattle.std.proofs.lemmas.List.{at_drop_more, at_drop_all, append-nil}
-use Rattle.std.proofs.lemmas.Bool.{cond-true, cond-false, cases_lt, eq-eqb, ne_eqb, cases_Bool, both_ways}
+use Rattle.std.proofs.lemmas.Bool.{cond-true, cond-false, cases_lt, eq-eqb, ne_eqb, cases_Bool, both_ways, not-true, not-false}
 use Rattle.std.proofs.lemmas.List.Edits.{length-between, get_or-between, between_more}
 use Rattle.std.specs.List.{between}
 use Rattle.std.proofs.lemmas.Bool.Decides.{nat_tests}
@@ -70,18 +70,10 @@ moved xs at i h e f =
 past_end : (xs : List ℕ) (i : ℕ) → length xs ≤ i → tokens_at xs i ≡ []
 past_end xs i h = at_drop_all (lexed (i + 1) []) xs i h
 
-true_not : (b : Bool) → not b ≡ true → b ≡ false
-true_not true e = sym e
-true_not false e = refl
-
-false_not : (b : Bool) → not b ≡ false → b ≡ true
-false_not true e = refl
-false_not false e = sym e
-
 pub skipped : (xs : List ℕ) (at : ℕ) (r : Option ℕ) → FirstFrom (λ b. not (is_space b)) xs at r → Skipped xs at r
-skipped xs at (Some i) h = (h.1, true_not (is_space (get_or xs i 0)) h.2, skip_to xs at i h.0 (omega (arith, h.1)) (λ k a b. false_not (is_space (get_or xs k 0)) (h.3 k a b)))
+skipped xs at (Some i) h = (h.1, not-true (is_space (get_or xs i 0)) h.2, skip_to xs at i h.0 (omega (arith, h.1)) (λ k a b. not-false (is_space (get_or xs k 0)) (h.3 k a b)))
 skipped xs at None h =
-    ⊎_elim (λ l. skip_to xs at (length xs) (omega arith) (omega arith) (λ k a b. false_not (is_space (get_or xs k 0)) (h k a b)) ∙ past_end xs (length xs) (omega arith)) (λ l. past_end xs at l)
+    ⊎_elim (λ l. skip_to xs at (length xs) (omega arith) (omega arith) (λ k a b. not-false (is_space (get_or xs k 0)) (h k a b)) ∙ past_end xs (length xs) (omega arith)) (λ l. past_end xs at l)
     (cases_lt at (length xs))
 
 between_none : (xs : List ℕ) (i : ℕ) → between i i xs ≡ []

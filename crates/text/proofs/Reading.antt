@@ -4,6 +4,7 @@ use Rattle.std.specs.Char.{is_ascii_digit}
 use Rattle.std.specs.Option.{option_and_then}
 use Rattle.std.specs.Str.{all_ascii_digits}
 use Rattle.std.proofs.lemmas.List.{at_drop_more, at_drop_all}
+use Rattle.std.proofs.lemmas.Option.{none-some}
 use Rattle.std.proofs.lemmas.Bool.{cond-true, cond-false, cases_lt, cases_Bool, and_parts, and_from, leb-true, leb-false, le-leb}
 use Rattle.std.proofs.lemmas.Bool.Decides.{nat_tests}
 use Rattle.std.proofs.lemmas.Slice.Eq.{bytes_eq-Decides}
@@ -11,9 +12,6 @@ use Rattle.std.proofs.lemmas.Str.Parse.{IsNumeralModel, numerals_by_fold}
 use Rattle.std.proofs.lemmas.Fmt.{decimal_by_steps, decimal-digits_value, digits_value-decimal, first_decimal, decimal_nonempty, decimal_digit}
 use Rattle.text.specs.Bytes.{is_digit}
 use Rattle.text.specs.Numbers.{value_from, in_range, number_in, NumberIn, good_start, digit_more, reading}
-
-pub never : {X : Type 0} (x : X) → ◌≡◌ {A = Option X} None (Some x) → ⊥
-never x e = let z : ◌≡◌ {A = ℕ} 0 1 = cc in omega arith
 
 -- what the rest of the digits gives after one more
 abbrev then : ℕ → List ℕ → Option ℕ → Option ℕ
@@ -42,8 +40,8 @@ gate : (a b : Bool) (m : ℕ) (f : ℕ → Option ℕ) (v : ℕ)
     → ◌≡◌ {A = Option ℕ} (elim (cond a (cond b (Some m) None) None) [ None ↦ None | Some m ↦ f m ]) (Some v)
     → (a ≡ true) × (b ≡ true) × (f m ≡ Some v)
 gate true true m f v e = (refl, refl, e)
-gate true false m f v e = absurd (never v e)
-gate false b m f v e = absurd (never v e)
+gate true false m f v e = absurd (none-some v e)
+gate false b m f v e = absurd (none-some v e)
 
 digit_ascii : (c : ℕ) → is_digit c ≡ true → is_ascii_digit c ≡ true
 digit_ascii c h = grind (arith, nat_tests)
@@ -109,7 +107,7 @@ no_start low high w b s n l k e =
     grind (arith, nat_tests)) (cases_lt 0 n)
 
 no_value : (low high : ℕ) (w : List ℕ) → high < 2 ^ 64 → None ≡ reading high 0 w → NumberIn low high w None
-no_value low high w b s n l k e = never n (s ∙ (ap (reading high 0) e ∙ reads_decimal high n k b))
+no_value low high w b s n l k e = none-some n (s ∙ (ap (reading high 0) e ∙ reads_decimal high n k b))
 
 too_low : (low high m : ℕ) (w : List ℕ) → high < 2 ^ 64 → Some m ≡ reading high 0 w → m < low → NumberIn low high w None
 too_low low high m w b s h n l k e =
