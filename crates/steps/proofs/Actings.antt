@@ -1,6 +1,7 @@
 -- Rows that are laid, and steps.
 use Rattle.std.proofs.Common.{◌≡◌, ℕ, zero, suc, ◌<◌, ◌≤◌, List, [], ◌∷◌, length, take, drop, replicate, IfOk, Ok, Err, Result, sym, refl, ap, ◌∙◌, subst, inl, arith, length-take}
 use Rattle.std.proofs.lemmas.List.{length-map, length-replicate, take-replicate}
+use Rattle.bounded.proofs.Listed.{listed_few}
 use Rattle.geometry.specs.declared.axis.Axis.{Axis}
 use Rattle.geometry.specs.declared.scope.Scope.{Scope}
 use Rattle.geometry.specs.declared.block.Block.{Block}
@@ -14,6 +15,7 @@ use Rattle.rows.specs.declared.row.Row.{Row}
 use Rattle.rows.specs.declared.refusal.RowRefusal.{RowRefusal}
 use Rattle.rows.specs.Rows.{sizes, parts_of, split_row, repeat_row, told, told_of, segments_of}
 use Rattle.rows.specs.Laws.{Shared, Lawful}
+use Rattle.rows.proofs.Fills.{parts_few}
 use Rattle.book.specs.declared.body.Body.TheVariants.{Use, Repeat, Split}
 use Rattle.book.specs.declared.line.Line.{Line}
 use Rattle.book.specs.Checks.{part_rules}
@@ -23,9 +25,9 @@ use Rattle.sinks.specs.Meaning.{Parts}
 use Rattle.rows.specs.declared.tile.Tile.{Tile}
 use Rattle.derivation.specs.Derive.{length_on, Goes, Derived, begun, step}
 use Rattle.steps.specs.declared.stop.Reason.{Reason}
-use Rattle.steps.specs.declared.stop.Stop.{Stop}
 use Rattle.steps.specs.Laying.{Filling, Cuts, Divides, NoRow, Relabelled}
-use Rattle.steps.specs.Acting.{Acts, Acted, Moved, Halts, Because}
+use Rattle.steps.specs.Acting.{Acts, Acted, Moved, Stepped}
+use Rattle.steps.proofs.Mapped.{told_as}
 
 -- a row has a length for each part
 shared_length : (R W : ℕ) (ss : List Size) (xs : List ℕ) → Shared R W ss xs → length xs ≡ length ss
@@ -36,9 +38,6 @@ shared_length R W (Float w ∷ ss) [] h = elim h [ ]
 shared_length R W (Fix m ∷ ss) (x ∷ xs) h = ap suc (shared_length R W ss xs h.1)
 shared_length R W (Float w ∷ ss) (x ∷ xs) h = ap suc (shared_length R W ss xs h.1)
 
-segments_count : (r : Row) → length (segments_of r) ≡ r.count
-segments_count r = omega (arith, length-take r.count r.segments, r.full)
-
 told_count : (r : Row) → length (told r) ≡ length (segments_of r)
 told_count r = length-map (segments_of r) (λ (g : Segment). g.length.0)
 
@@ -46,7 +45,7 @@ told_count r = length-map (segments_of r) (λ (g : Segment). g.length.0)
 lawful_filling : (L : ℕ) (ss : List Size) (r : Row) (rs : List ℕ) → 1 ≤ L → Lawful L ss (told r) → length rs ≡ length (segments_of r) → Known rs → Filling L (told r) rs
 lawful_filling L ss r rs pos l e k = record {
   some = some (told r) l.closes;
-  few = omega (arith, told_count r, segments_count r, r.few);
+  few = omega (arith, told_count r, listed_few r.segments);
   sums = l.closes;
   thick = l.thick;
   rules = e ∙ sym (told_count r);
@@ -58,9 +57,8 @@ lawful_filling L ss r rs pos l e k = record {
     some (n ∷ ns) f = omega arith
 
 -- the rules that a split gives its pieces are those of its parts
-split_count : (L : ℕ) (p : parted.Parts) (r : Row) → Lawful L (sizes (parts_of p)) (told r) → length (segments_of r) ≡ p.count
-split_count L p r l =
-    omega (arith, told_count r, shared_length _ _ (sizes (parts_of p)) (told r) l.near, length-map (parts_of p) (λ q. q.size), length-take p.count p.items, p.full)
+split_count : (L : ℕ) (p : parted.Parts) (r : Row) → Lawful L (sizes (parts_of p)) (told r) → length (segments_of r) ≡ length (parts_of p)
+split_count L p r l = omega (arith, told_count r, shared_length _ _ (sizes (parts_of p)) (told r) l.near, length-map (parts_of p) (λ q. q.size))
 
 pub split_filling : (L : ℕ) (p : parted.Parts) (rs : List ℕ) (row : Result Row RowRefusal) → 1 ≤ L → length rs ≡ 16 → Known (part_rules p rs)
     → IfOk row (λ r. Lawful L (sizes (parts_of p)) (told r)) → IfOk row (λ r. Filling L (told r) (take (length (segments_of r)) rs))
@@ -68,7 +66,7 @@ split_filling L p rs (Err x) pos n k l = tt
 split_filling L p rs (Ok r) pos n k l =
     let c = split_count L p r l in
     lawful_filling L (sizes (parts_of p)) r (take (length (segments_of r)) rs) pos l
-    (omega (arith, length-take (length (segments_of r)) rs, c, p.few))
+    (omega (arith, length-take (length (segments_of r)) rs, c, parts_few p))
     (subst (λ (m : ℕ). Known (take m rs)) (sym c) k)
 
 pub split_rules : (L : ℕ) (p : parted.Parts) (rs : List ℕ) (row : Result Row RowRefusal) → IfOk row (λ r. Lawful L (sizes (parts_of p)) (told r))
@@ -81,7 +79,7 @@ known_same zero t h = tt
 known_same (suc n) t h = (h, known_same n t h)
 
 tile_taken : (t : ℕ) (rs : List ℕ) → rs ≡ replicate 64 t → (r : Row) → take (length (segments_of r)) rs ≡ replicate (length (segments_of r)) t
-tile_taken t rs e r = ap (take (length (segments_of r))) e ∙ take-replicate (length (segments_of r)) 64 t (omega (arith, segments_count r, r.few))
+tile_taken t rs e r = ap (take (length (segments_of r))) e ∙ take-replicate (length (segments_of r)) 64 t (omega (arith, listed_few r.segments))
 
 pub tile_filling : (L t : ℕ) (ss : List Size) (rs : List ℕ) (row : Result Row RowRefusal) → 1 ≤ L → t < most_lines → rs ≡ replicate 64 t
     → IfOk row (λ r. Lawful L ss (told r)) → IfOk row (λ r. Filling L (told r) (take (length (segments_of r)) rs))
@@ -123,15 +121,21 @@ module _ {S : Type 0} (edge : ℕ) (parts : S → Parts) (took : S → Block →
       let at : Derived ls first 0 [] (s ∷ drop 1 first) = subst (λ w. Derived ls first 0 [] w) top begun in
       record { blocks = a.blocks; derived = subst (λ w. Derived ls first 1 a.blocks w) (sym a.left) (step at g); taken = a.taken }
 
-pub halts_as : (ls : List Line) (x : Stop) (w : Reason) (l : Line) (s : Scope) → x.reason ≡ w → x.line ≡ l.number → x.scope ≡ s
-    → (cap : ℕ) (ws : List Scope) (p : Parts) (rest : List Scope) (i : ℕ) → ws ≡ s ∷ rest → Applies ls s.rule s.cuboid i l
-    → Because l.body s cap (length ws) p w → Halts ls cap ws p x
-halts_as ls x w l s e f g cap ws p rest i top h b = record {
-  rest = rest;
-  top = top ∙ ap (λ y. y ∷ rest) (sym g);
-  index = i;
-  line = l;
-  applies = subst (λ y. Applies ls y.rule y.cuboid i l) (sym g) h;
-  number = f;
-  because = subst (λ y. Because l.body x.scope cap (length ws) p y) (sym e) (subst (λ y. Because l.body y cap (length ws) p w) (sym g) b);
-}
+  -- one step, or why it is refused
+  pub acted_steps : (ls : List Line) (s : Scope) (first last : List Scope) (cap : ℕ) (x y : S) (i : ℕ) (l : Line) → first ≡ s ∷ drop 1 first → Applies ls s.rule s.cuboid i l
+      → (o : Result (Unit {0}) Reason) → Acts edge parts took kept l.body s first last cap x y o
+      → Stepped edge parts took kept ls first last cap x y (told_as (λ (w : Reason). record { reason = w; line = l.number; scope = s }) o)
+  acted_steps ls s first last cap x y i l top h (Ok u) a = moved ls s first last x y i l top h a
+  acted_steps ls s first last cap x y i l top h (Err w) a = (
+    a.0,
+    a.1,
+    record {
+      rest = drop 1 first;
+      top = top;
+      index = i;
+      line = l;
+      applies = h;
+      number = refl;
+      because = a.2;
+    },
+  )

@@ -1,3 +1,4 @@
+pub mod Mapped
 pub mod Layings
 pub mod Actings
 pub mod Runnings

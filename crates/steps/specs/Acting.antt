@@ -12,8 +12,6 @@ use Rattle.derivation.specs.Derive.{length_on, block_of, Does, Derived}
 use Rattle.steps.specs.declared.stop.Reason.{Reason}
 use Rattle.steps.specs.declared.stop.Reason.TheVariants as reason
 use Rattle.steps.specs.declared.stop.Stop.{Stop}
-use Rattle.steps.specs.declared.stop.Step.{Step}
-use Rattle.steps.specs.declared.stop.Step.TheVariants as step
 use Rattle.steps.specs.declared.stop.Ending.{Ending}
 use Rattle.steps.specs.declared.stop.Ending.TheVariants as ending
 use Rattle.steps.specs.Laying.{NoRow}
@@ -57,16 +55,16 @@ module _ {S : Type 0} (edge : ℕ) (parts : S → Parts) (took : S → Block →
   Acts b s first last cap x y (Ok u) = Acted b s first last x y
   Acts b s first last cap x y (Err w) = (last ≡ first) × Stays parts kept x y × Because b s cap (length first) (parts x) w
 
-  -- one step was made
+  -- what one step did
   pub record Moved (ls : List Line) (first last : List Scope) (x y : S) : Type 0 where
     pub blocks : List Block
     pub derived : Derived ls first 1 blocks last
     pub taken : Chain (Taking edge parts took) x blocks y
 
-  abbrev pub Stepped : List Line → List Scope → List Scope → ℕ → S → S → Step → Type 0
-  Stepped ls first last cap x y step.Idle = (last ≡ first) × (y ≡ x) × (first ≡ [])
-  Stepped ls first last cap x y step.Moved = Moved ls first last x y
-  Stepped ls first last cap x y (step.Stopped stop) = (last ≡ first) × Stays parts kept x y × Halts ls cap first (parts x) stop
+  -- one step was made, or it was refused and nothing is altered
+  abbrev pub Stepped : List Line → List Scope → List Scope → ℕ → S → S → Result (Unit {0}) Stop → Type 0
+  Stepped ls first last cap x y (Ok u) = Moved ls first last x y
+  Stepped ls first last cap x y (Err stop) = (last ≡ first) × Stays parts kept x y × Halts ls cap first (parts x) stop
 
   -- n steps were made, within the budget: they are steps of the derivation, the sink took just the blocks made, one
   -- after another in their order, and nothing after them; and the run ended as it had to

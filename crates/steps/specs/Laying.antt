@@ -1,5 +1,6 @@
 -- Replacing the top of the waiting scopes.
-use Rattle.std.specs.Prelude.{◌≡◌, ℕ, ◌+◌, ◌-◌, ◌<◌, ◌≤◌, Bool, true, false, List, ◌∷◌, ◌++◌, map, length, take, drop, Ok, Err, Result}
+use Rattle.std.specs.Prelude.{◌≡◌, ℕ, ◌+◌, ◌-◌, ◌<◌, ◌≤◌, List, ◌∷◌, ◌++◌, map, length, take, drop, Ok, Err, Result}
+use Rattle.bounded.specs.declared.full.Full.{Full}
 use Rattle.geometry.specs.declared.axis.Axis.{Axis}
 use Rattle.geometry.specs.declared.scope.Scope.{Scope}
 use Rattle.geometry.specs.Sums.{sum_of}
@@ -33,9 +34,9 @@ abbrev pub Placed : Scope → Axis → List ℕ → List ℕ → List Scope → 
 Placed s a ns rs first last = (ts : List Scope) × Laid s.cuboid a 0 ns (map box_of ts) × (map rule_of ts ≡ rs) × (last ≡ ts ++ drop 1 first)
 
 -- the pieces stand in the place of s; or entries lack, and nothing is altered
-abbrev pub Lays : List Scope → List Scope → ℕ → Scope → Axis → List ℕ → List ℕ → Bool → Type 0
-Lays first last cap s a ns rs true = Placed s a ns rs first last
-Lays first last cap s a ns rs false = (last ≡ first) × (cap < length first + (length ns - 1))
+abbrev pub Lays : List Scope → List Scope → ℕ → Scope → Axis → List ℕ → List ℕ → Result (Unit {0}) Full → Type 0
+Lays first last cap s a ns rs (Ok u) = Placed s a ns rs first last
+Lays first last cap s a ns rs (Err e) = (last ≡ first) × (cap < length first + (length ns - 1))
 
 -- why a row of a scope of length L is not laid, where k of cap entries are held
 abbrev pub NoRow : Axis → ℕ → Result (List ℕ) RowRefusal → ℕ → ℕ → Reason → Type 0

@@ -10,7 +10,7 @@ ghost use Rattle.steps.specs.Laying.{Divides, SameSlice};
 ghost use Rattle.steps.specs.Acting.{Acts, Stepped};
 
 use crate::laying::{cut, relabel};
-use crate::stop::{Reason, Step, Stop};
+use crate::stop::{Reason, Stop};
 use book::body::Body;
 use book::line::Line;
 use book::table::RuleTable;
@@ -83,24 +83,19 @@ fn make<S: Sink>(
     ensures acts { Acts S.Sink.edge S.Sink.parts S.Sink.took S.Sink.kept (Body.Make material) scope (entries stack.old) (entries stack.new) (capacity stack.old) sink.old sink.new result }
     ensures slice { SameSlice stack.old stack.new }
 {
-    match sink.take(block_of(scope, material)) {
-        Ok(()) => {
-            let _ = stack.pop();
-            Ok(())
-        }
-        Err(refusal) => Err(Reason::Sink(refusal)),
-    }
+    sink.take(block_of(scope, material))?;
+    let _ = stack.pop();
+    Ok(())
 }
 
 fn act<S: Sink>(
     stack: &mut Stack<'_, Scope>,
     sink: &mut S,
     scope: Scope,
-    i: usize,
     body: &Body,
 ) -> Result<(), Reason>
     requires top { entries stack.old ≡ scope ∷ drop 1 (entries stack.old) }
-    requires ok { BodyOk i body.now }
+    requires ok { (i : ℕ) × BodyOk i body.now }
     ensures acts { Acts S.Sink.edge S.Sink.parts S.Sink.took S.Sink.kept body.now scope (entries stack.old) (entries stack.new) (capacity stack.old) sink.old sink.new result }
     ensures slice { SameSlice stack.old stack.new }
 {
@@ -127,21 +122,17 @@ fn stop_at(reason: Reason, line: &Line, scope: Scope) -> Stop
     }
 }
 
-// One step, if anything waits.
-pub(crate) fn advance<S: Sink>(
+// One step, on the top scope.
+pub(crate) fn step<S: Sink>(
     table: &RuleTable,
     stack: &mut Stack<'_, Scope>,
     sink: &mut S,
-) -> Step
+    scope: Scope,
+) -> Result<(), Stop>
+    requires { entries stack.old ≡ scope ∷ drop 1 (entries stack.old) }
     ensures steps { Stepped S.Sink.edge S.Sink.parts S.Sink.took S.Sink.kept (lines_of table.now) (entries stack.old) (entries stack.new) (capacity stack.old) sink.old sink.new result }
     ensures slice { SameSlice stack.old stack.new }
 {
-    let Some(scope) = stack.top() else {
-        return Step::Idle;
-    };
-    let (i, line) = table.choose(scope);
-    match act(stack, sink, scope, i, &line.body) {
-        Ok(()) => Step::Moved,
-        Err(reason) => Step::Stopped(stop_at(reason, &line, scope)),
-    }
+    let (_, line) = table.choose(scope);
+    act(stack, sink, scope, &line.body).map_err(|reason| stop_at(reason, line, scope))
 }

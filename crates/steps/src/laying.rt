@@ -8,6 +8,7 @@ ghost use Rattle.derivation.specs.Derive.{length_on};
 ghost use Rattle.steps.specs.Laying.{Filling, Lays, Cuts, Relabelled, SameSlice};
 
 use crate::stop::Reason;
+use bounded::full::Full;
 use geometry::axis::Axis;
 use geometry::cuboid::Cuboid;
 use geometry::scope::Scope;
@@ -36,33 +37,29 @@ fn piece(scope: Scope, axis: Axis, offset: Mm, length: Mm, rule: u8) -> Scope
     }
 }
 
-// The top scope is replaced by the scopes of a row, the lowest on top; false, and nothing altered, where entries lack.
+// The top scope is replaced by the scopes of a row, the lowest on top; refused, and nothing altered, where entries lack.
 fn lay(
     stack: &mut Stack<'_, Scope>,
     scope: Scope,
     axis: Axis,
     segments: &[Segment],
     rules: &[u8],
-) -> bool
+) -> Result<(), Full>
     requires top { entries stack.old ≡ scope ∷ drop 1 (entries stack.old) }
-    requires row { Filling (length_on axis scope) (lengths_of segments.now) (take (length segments.now) rules.now) }
-    ensures lays { Lays (entries stack.old) (entries stack.new) (capacity stack.old) scope axis (lengths_of segments.now) (take (length segments.now) rules.now) result }
+    requires row { Filling (length_on axis scope) (lengths_of segments.now) rules.now }
+    ensures lays { Lays (entries stack.old) (entries stack.new) (capacity stack.old) scope axis (lengths_of segments.now) rules.now result }
     ensures slice { SameSlice stack.old stack.new }
 {
-    let n = segments.len();
-    if stack.free() < n - 1 {
-        return false;
+    if stack.free() < segments.len() - 1 {
+        return Err(Full);
     }
     let _ = stack.pop();
-    let mut end = scope.cuboid.on(axis).size.0;
-    let mut i = n;
-    while i > 0 {
-        i -= 1;
-        let length = segments[i].length;
-        end -= length.0;
-        let _ = stack.push(piece(scope, axis, Mm(end), length, rules[i]));
+    let mut end = scope.cuboid.on(axis).size;
+    for (segment, rule) in segments.iter().rev().zip(rules.iter().rev()) {
+        end = end - segment.length;
+        let _ = stack.push(piece(scope, axis, end, segment.length, *rule));
     }
-    true
+    Ok(())
 }
 
 // The scopes of a row take the place of the top scope.
@@ -79,16 +76,9 @@ pub(crate) fn cut(
     ensures slice { SameSlice stack.old stack.new }
 {
     let length = scope.cuboid.on(axis).size;
-    match row {
-        Err(refusal) => Err(Reason::Row(refusal, axis, length)),
-        Ok(row) => {
-            if lay(stack, scope, axis, row.as_slice(), rules) {
-                Ok(())
-            } else {
-                Err(Reason::Full(axis, length))
-            }
-        }
-    }
+    let row = row.map_err(|refusal| Reason::Row(refusal, axis, length))?;
+    let segments = row.as_slice();
+    lay(stack, scope, axis, segments, &rules[..segments.len()]).or(Err(Reason::Full(axis, length)))
 }
 
 // The top scope goes on with another rule.

@@ -1,4 +1,6 @@
 // Why a step was refused, and where.
+ghost use Rattle.std.specs.Prelude.{◌≡◌};
+
 use geometry::axis::Axis;
 use geometry::scope::Scope;
 use geometry::units::Mm;
@@ -15,20 +17,23 @@ pub enum Reason {
     Sink(SinkRefusal),
 }
 
+// A sink's refusal is a reason as it is.
+impl From<SinkRefusal> for Reason {
+    ghost use Rattle.steps.specs.declared.stop.Reason.TheVariants.{Sink};
+
+    ghost from_gives = { λ e r. r ≡ Sink e };
+
+    fn from(refusal: SinkRefusal) -> Reason {
+        Reason::Sink(refusal)
+    }
+}
+
 // The line is that of the rules file; the scope is the one on top.
 #[derive(Clone, Copy)]
 pub struct Stop {
     pub reason: Reason,
     pub line: u32,
     pub scope: Scope,
-}
-
-// What came of one step.
-#[derive(Clone, Copy)]
-pub(crate) enum Step {
-    Idle,
-    Moved,
-    Stopped(Stop),
 }
 
 // How a run ended: nothing waits, the budget is spent, or the next step was refused.

@@ -33,8 +33,7 @@ impl Reason {
         ensures { result ≡ reason_along self }
     {
         match self {
-            Reason::Row(_, axis, length) => Some((axis, length)),
-            Reason::Full(axis, length) => Some((axis, length)),
+            Reason::Row(_, axis, length) | Reason::Full(axis, length) => Some((axis, length)),
             Reason::Sink(_) => None,
         }
     }
