@@ -1,5 +1,6 @@
 -- One line more of a book.
-use Rattle.std.proofs.Common.{◌≡◌, ℕ, ◌+◌, ◌<◌, Bool, true, false, List, [], ◌∷◌, ◌++◌, length, None, sym, refl, ap, ◌∙◌, inl, inr, ⊎_elim, arith}
+use Rattle.rules.specs.declared.rule_book.Book.{Book}
+use Rattle.std.proofs.Common.{◌≡◌, ℕ, ◌+◌, ◌<◌, true, false, List, [], ◌∷◌, ◌++◌, length, Some, None, Option, Ok, Err, Result, sym, refl, ap, ◌∙◌, inl, inr, ⊎_elim, arith}
 use Rattle.std.proofs.lemmas.List.{length-map}
 use Rattle.std.proofs.lemmas.Bool.{both_ways, and_from, and_parts, lt-ltb, le-leb, ltb-true}
 use Rattle.geometry.specs.Limits.{most_lines}
@@ -10,6 +11,8 @@ use Rattle.judge.proofs.Accepted.{accepts}
 use Rattle.judge.specs.Files.{some, Spells}
 use Rattle.judge.specs.Judged.{judged, Acceptable}
 use Rattle.bounded.specs.Held.{Pushed}
+use Rattle.bounded.specs.declared.full.Full.{Full}
+use Rattle.std.specs.Result.{result_ok}
 use Rattle.forms.specs.Reads.{RuleRead, NoRule}
 use Rattle.forms.specs.Told.{Name, bytes_of}
 use Rattle.forms.specs.declared.rule.RuleLine.{RuleLine}
@@ -17,11 +20,10 @@ use Rattle.rules.proofs.Orderly.{few, parts_of_lem}
 use Rattle.rules.proofs.Standing.{material_some, rule_none}
 use Rattle.rules.specs.Before.{left_by, declared_in}
 use Rattle.rules.specs.Holds.{parts_of, with_rule, Grown, has_room, MaterialTaken, RuleTaken, FormTaken, Fitting}
-use Rattle.rules.specs.Pages.{Pages}
 use Rattle.rules.specs.Verdicts.{part_room, all_parts, line_fault, Few}
 
 -- a book that fits has room for a rule line that is none too many
-module _ (p : Pages) (l w : List ℕ) (gs : List Guard) (b : Body) (s : Spells Rules l (rule w gs b)) (few : Few (left_by p) (rule w gs b)) (f : Fitting p) where
+module _ (p : Book) (l w : List ℕ) (gs : List Guard) (b : Body) (s : Spells Rules l (rule w gs b)) (few : Few (left_by p) (rule w gs b)) (f : Fitting p) where
   few_lines : length p.lines < most_lines
   few_lines = omega (arith, few.0, f.paired, length-map p.names bytes_of)
 
@@ -34,10 +36,10 @@ module _ (p : Pages) (l w : List ℕ) (gs : List Guard) (b : Body) (s : Spells R
       (omega (arith, few_lines, f.spare)) s.spelled
 
 -- a rule line was read and stands at the end
-pub rule_added : (n : ℕ) (l : List ℕ) (p : Pages) (names uses : List Name) (lines : List RuleLine) (k : ℕ) (r : RuleLine) (t : Bool)
-    → RuleRead n l p.names names p.uses uses r → Pushed 64 p.lines r lines t → has_room p ≡ true → k ≡ parts_of r.body
-    → RuleTaken n l p (record { materials = p.materials; names = names; lines = lines; uses = uses; parts = p.parts + k }) t
-rule_added n l p names uses lines k r true h q room e = record {
+pub rule_added : (n : ℕ) (l : List ℕ) (p : Book) (names uses : List Name) (lines : List RuleLine) (k : ℕ) (r : RuleLine) (x : Result Unit Full)
+    → RuleRead n l p.names names p.uses uses r → Pushed 64 p.lines r lines x → has_room p ≡ true → k ≡ parts_of r.body
+    → RuleTaken n l p (record { materials = p.materials; names = names; lines = lines; uses = uses; parts = p.parts + k }) (result_ok x)
+rule_added n l p names uses lines k r (Ok u) h q room e = record {
   own = h.own;
   line = r;
   used = h.used;
@@ -48,40 +50,40 @@ rule_added n l p names uses lines k r true h q room e = record {
 }
   where
     same : (ns us : List Name) (ls : List RuleLine) (k : ℕ) → ns ≡ p.names ++ h.own ∷ [] → us ≡ p.uses ++ h.used → ls ≡ p.lines ++ r ∷ [] → k ≡ parts_of r.body
-        → ◌≡◌ {A = Pages} (record { materials = p.materials; names = ns; lines = ls; uses = us; parts = p.parts + k }) (with_rule p h.own r h.used)
+        → ◌≡◌ {A = Book} (record { materials = p.materials; names = ns; lines = ls; uses = us; parts = p.parts + k }) (with_rule p h.own r h.used)
     same ns us ls k a b c d = cc
-rule_added n l p names uses lines k r false h q room e =
+rule_added n l p names uses lines k r (Err f) h q room e =
     absurd (omega (arith, q.0, ltb-true (length p.lines) most_lines (and_parts _ _ room).0))
 
 -- pages that stay
-pub same_pages : (p : Pages) (ns us : List Name) → ns ≡ p.names → us ≡ p.uses
-    → ◌≡◌ {A = Pages} (record { materials = p.materials; names = ns; lines = p.lines; uses = us; parts = p.parts }) p
+pub same_pages : (p : Book) (ns us : List Name) → ns ≡ p.names → us ≡ p.uses
+    → ◌≡◌ {A = Book} (record { materials = p.materials; names = ns; lines = p.lines; uses = us; parts = p.parts }) p
 same_pages p ns us a b =
     ap (λ (n : List Name). record { materials = p.materials; names = n; lines = p.lines; uses = us; parts = p.parts }) a
     ∙ ap (λ (u : List Name). record { materials = p.materials; names = p.names; lines = p.lines; uses = u; parts = p.parts }) b
 
 -- a line that declares a material, or is none that does
-module _ (n : ℕ) (l : List ℕ) (p q : Pages) where
-  pub form_material : (t : Bool) → true ≡ some (declared_in l) → MaterialTaken n l p q t → FormTaken n l p q t
-  form_material true e h = inl h
-  form_material false e h = (h.0, none) where
+module _ (n : ℕ) (l : List ℕ) (p q : Book) where
+  pub form_material : (t : Option (Unit {0})) → true ≡ some (declared_in l) → MaterialTaken n l p q t → FormTaken n l p q t
+  form_material (Some u) e h = inl h
+  form_material None e h = (h.0, none) where
     none : (f : Form) → Spells Rules l f → Few (left_by p) f → Fitting p → ⊥
     none (material w) s few f = omega (arith, few, h.1 w s.spelled, length-map p.materials bytes_of)
     none (rule w gs b) s few f = both_ways (some (declared_in l)) (rule_none l w gs b s.fits s.spelled) (sym e)
     none (lot px py pz sx sy sz w) s few f = s.fits
 
-  pub form_rule : (t : Bool) → false ≡ some (declared_in l) → RuleTaken n l p q t → FormTaken n l p q t
-  form_rule true e h = inr h
-  form_rule false e h = (h.0, none) where
+  pub form_rule : (t : Option (Unit {0})) → false ≡ some (declared_in l) → RuleTaken n l p q t → FormTaken n l p q t
+  form_rule (Some u) e h = inr h
+  form_rule None e h = (h.0, none) where
     none : (f : Form) → Spells Rules l f → Few (left_by p) f → Fitting p → ⊥
     none (material w) s few f = both_ways (some (declared_in l)) (sym e) (material_some l w s.spelled)
     none (rule w gs b) s few f = h.1 w gs b s few f
     none (lot px py pz sx sy sz w) s few f = s.fits
 
   -- a line without fault that is not blank is added
-  pub form_grown : (t : Bool) → None ≡ line_fault (left_by p) n l → false ≡ is_blank l → Fitting p → FormTaken n l p q t → Grown n l p q
-  form_grown true e b f h = inr h
-  form_grown false e b f h =
+  pub form_grown : (t : Option (Unit {0})) → None ≡ line_fault (left_by p) n l → false ≡ is_blank l → Fitting p → FormTaken n l p q t → Grown n l p q
+  form_grown (Some u) e b f h = inr h
+  form_grown None e b f h =
       let m = parts_of_lem (left_by p) n l (sym e) in
       let a : Acceptable Rules l = (accepts Rules l n (judged Rules n l) refl).0 m.0 in
       ⊎_elim

@@ -1,10 +1,12 @@
 -- What a book leaves after it has grown by a line.
-use Rattle.std.proofs.Common.{◌≡◌, ℕ, zero, suc, ◌+◌, ◌≤◌, Bool, ltb, List, [], ◌∷◌, map, length, take, sym, refl, ap, ◌∙◌, ⊎_elim, arith}
-use Rattle.std.proofs.lemmas.List.{length-map, length-take, length-take-le, map-append}
+use Rattle.rules.specs.declared.rule_book.Book.{Book}
+use Rattle.std.proofs.Common.{◌≡◌, ℕ, suc, ◌+◌, ◌≤◌, Bool, ltb, List, [], ◌∷◌, map, length, sym, refl, ap, ◌∙◌, ⊎_elim, arith}
+use Rattle.std.proofs.lemmas.List.{length-map, map-append}
 use Rattle.std.proofs.lemmas.Bool.{lt-ltb}
 use Rattle.text.proofs.Blank.{blank_decides}
 use Rattle.text.specs.Lines.{is_blank}
 use Rattle.grammar.specs.Forms.{material, Part}
+use Rattle.bounded.proofs.Listed.{listed_few}
 use Rattle.book.specs.declared.guard.Guard.{Guard}
 use Rattle.rows.specs.declared.part.Part.{Part as RowPart}
 use Rattle.rows.specs.Rows.{parts_of as row_parts}
@@ -18,13 +20,11 @@ use Rattle.rules.proofs.Lists.{last_push}
 use Rattle.rules.proofs.Standing.{after_added, after_blank}
 use Rattle.rules.specs.Before.{Before, left_by, after, added}
 use Rattle.rules.specs.Holds.{parts_of, with_material, with_rule, RuleAdded, MaterialAdded, Grown}
-use Rattle.rules.specs.Pages.{Pages}
 
 -- a rule line has a guard just if it says one
-some_guards : (k : ℕ) (gs : List Guard) → k ≤ length gs → ltb 0 k ≡ some (map guard_of (take k gs))
-some_guards zero gs h = refl
-some_guards (suc k) [] h = absurd (omega arith)
-some_guards (suc k) (g ∷ gs) h = lt-ltb 0 (suc k) (omega arith)
+some_guards : (gs : List Guard) → ltb 0 (length gs) ≡ some (map guard_of gs)
+some_guards [] = refl
+some_guards (g ∷ gs) = lt-ltb 0 (length (g ∷ gs)) (omega arith)
 
 forms_length : (ps : List RowPart) (ns : List Name) → length ps ≡ length ns → length (part_forms ps ns) ≡ length ps
 forms_length [] ns e = refl
@@ -40,28 +40,27 @@ body_count Make ns e = refl
 body_count Use ns e = refl
 body_count (Repeat a t) ns e = refl
 body_count (Split a p) ns e =
-    let k : length (row_parts p) ≡ p.count = length-take-le p.count p.items p.full in
-    split_count _ _ ∙ (forms_length (row_parts p) ns (k ∙ sym e) ∙ k)
+    split_count _ _ ∙ forms_length (row_parts p) ns (sym e)
 
 same_before : (ms ms' ns ns' : List (List ℕ)) (t t' : Bool) (n n' : ℕ) → ms ≡ ms' → ns ≡ ns' → t ≡ t' → n ≡ n'
     → ◌≡◌ {A = Before} (record { materials = ms; names = ns; guarded = t; parts = n }) (record { materials = ms'; names = ns'; guarded = t'; parts = n' })
 same_before ms ms' ns ns' t t' n n' p q r s = cc
 
-left_material : (p : Pages) (m : Name) → left_by (with_material p m) ≡ added (left_by p) (material (bytes_of m))
+left_material : (p : Book) (m : Name) → left_by (with_material p m) ≡ added (left_by p) (material (bytes_of m))
 left_material p m = same_before _ _ _ _ _ _ _ _ (map-append bytes_of p.materials (m ∷ [])) refl refl refl
 
-left_rule : (p : Pages) (own : Name) (r : RuleLine) (used : List Name) → length used ≡ uses_of r.body
+left_rule : (p : Book) (own : Name) (r : RuleLine) (used : List Name) → length used ≡ uses_of r.body
     → left_by (with_rule p own r used) ≡ added (left_by p) (rule_of own r used)
 left_rule p own r used e =
     same_before _ _ _ _ _ _ _ _ refl (map-append bytes_of p.names (own ∷ []))
-    (last_push (λ (s : RuleLine). ltb 0 s.guarded) p.lines r ∙ some_guards r.guarded r.guards r.full)
+    (last_push (λ (s : RuleLine). ltb 0 (length (guards_of s))) p.lines r ∙ some_guards (guards_of r))
     (ap (λ n. p.parts + n) (sym (body_count r.body used e)))
 
 pub few_guards : (r : RuleLine) → length (map guard_of (guards_of r)) ≤ 3
-few_guards r = simp (length-map, length-take) (omega (arith, r.few))
+few_guards r = simp length-map (omega (arith, listed_few r.guards))
 
 -- after one line more
-pub left_grown : (n : ℕ) (l : List ℕ) (p q : Pages) → Grown n l p q → left_by q ≡ after (left_by p) l
+pub left_grown : (n : ℕ) (l : List ℕ) (p q : Book) → Grown n l p q → left_by q ≡ after (left_by p) l
 left_grown n l p q g =
     ⊎_elim
     (λ b. ap left_by b.1 ∙ sym (after_blank (left_by p) l ((blank_decides l (is_blank l) refl).0 b.0)))

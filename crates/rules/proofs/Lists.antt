@@ -1,7 +1,7 @@
 -- Names in lists, and the last of a list.
-use Rattle.std.proofs.Common.{◌≡◌, ℕ, suc, ◌+◌, ◌-◌, ◌<◌, ◌≤◌, Bool, true, false, ◌||◌, List, [], ◌∷◌, ◌++◌, map, length, get_or, drop, sym, refl, ap, ◌∙◌, arith}
+use Rattle.std.proofs.Common.{◌≡◌, ℕ, suc, ◌-◌, ◌<◌, ◌≤◌, Bool, false, ◌||◌, List, [], ◌∷◌, ◌++◌, map, length, get_or, refl, ap, ◌∙◌, arith}
+use Rattle.std.specs.List.{list_any}
 use Rattle.std.specs.Str.{bytes_eq}
-use Rattle.std.proofs.lemmas.List.{at_drop_more, at_drop_all}
 use Rattle.forms.specs.Told.{Name, bytes_of}
 use Rattle.rules.specs.Before.{last_passes}
 use Rattle.rules.specs.Verdicts.{among}
@@ -27,16 +27,7 @@ last_map f p [] = refl
 last_map f p (x ∷ []) = refl
 last_map f p (x ∷ y ∷ ys) = last_map f p (y ∷ ys)
 
--- a name is looked for in a list, from the i-th on
-module _ (w : List ℕ) (ns : List Name) (i : ℕ) where
-  abbrev looked : List Name → Bool
-  looked xs = among w (map bytes_of xs)
-
-  pub among_found : (d : Name) → i < length ns → true ≡ bytes_eq (bytes_of (get_or ns i d)) w → looked (drop i ns) ≡ true
-  among_found d h e = at_drop_more looked ns i d h ∙ ap (λ b. b || looked (drop (i + 1) ns)) (sym e)
-
-  pub among_skip : (d : Name) → i < length ns → false ≡ bytes_eq (bytes_of (get_or ns i d)) w → looked (drop i ns) ≡ looked (drop (i + 1) ns)
-  among_skip d h e = at_drop_more looked ns i d h ∙ ap (λ b. b || looked (drop (i + 1) ns)) (sym e)
-
-  pub among_none : length ns ≤ i → looked (drop i ns) ≡ false
-  among_none h = at_drop_all looked ns i h
+-- a name stands in a list
+pub among_any : (w : List ℕ) (ns : List Name) → among w (map bytes_of ns) ≡ list_any (λ p. bytes_eq (bytes_of p) w) ns
+among_any w [] = refl
+among_any w (n ∷ ns) = ap (λ b. bytes_eq (bytes_of n) w || b) (among_any w ns)

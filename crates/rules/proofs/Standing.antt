@@ -19,10 +19,6 @@ picked test xs (t ∷ ts) =
     cond (test xs t) (t ∷ elim (step xs t) [ None ↦ [] | Some ys ↦ picked test ys ts ])
     (elim (step xs t) [ None ↦ [] | Some ys ↦ picked test ys ts ])
 
-plain_cond : (b : Bool) (p : Lexeme × ℕ) (ps qs : List (Lexeme × ℕ)) → plain (cond b ps qs) ≡ cond b (plain ps) (plain qs)
-plain_cond true p ps qs = refl
-plain_cond false p ps qs = refl
-
 plain_met : (test : List Want → Lexeme → Bool) (ps : List (Lexeme × ℕ)) (xs : List Want) → plain (met test xs ps) ≡ picked test xs (plain ps)
 plain_met test [] xs = refl
 plain_met test (p ∷ ps) xs =

@@ -1,4 +1,5 @@
 -- What the lines of a rule file leave for those after them.
+use Rattle.rules.specs.declared.rule_book.Book.{Book}
 use Rattle.std.specs.Prelude.{ℕ, ◌+◌, Bool, true, false, cond, ◌&&◌, List, [], ◌∷◌, ◌++◌, map, length, nat_lt}
 use Rattle.text.specs.Tokens.{Lexeme, opening, closing, number, word, tokens_of, spelled}
 use Rattle.grammar.specs.Forms.{Form, material, rule, lot}
@@ -8,10 +9,9 @@ use Rattle.grammar.specs.declared.state.Naming.{Naming}
 use Rattle.grammar.specs.declared.state.Naming.TheVariants.{Declared, Own, Material, Rule}
 use Rattle.forms.specs.Met.{met}
 use Rattle.forms.specs.Reads.{part_count}
-use Rattle.forms.specs.Told.{bytes_of}
+use Rattle.forms.specs.Told.{bytes_of, guards_of}
 use Rattle.forms.specs.declared.rule.RuleLine.{RuleLine}
 use Rattle.judge.specs.Files.{some}
-use Rattle.rules.specs.Pages.{Pages}
 
 -- the names of the materials declared so far, the names of the rule lines, whether the last of them has a guard, and the
 -- number of parts
@@ -33,10 +33,10 @@ last_passes p (x ∷ y ∷ ys) = last_passes p (y ∷ ys)
 
 -- the last rule line has a guard
 abbrev pub last_guarded : List RuleLine → Bool
-last_guarded rs = last_passes (λ r. nat_lt 0 r.guarded) rs
+last_guarded rs = last_passes (λ r. nat_lt 0 (length (guards_of r))) rs
 
 -- what a book leaves
-abbrev pub left_by : Pages → Before
+abbrev pub left_by : Book → Before
 left_by p = record {
   materials = map bytes_of p.materials;
   names = map bytes_of p.names;

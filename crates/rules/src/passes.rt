@@ -1,171 +1,126 @@
 // What can be wrong with a line of a rule file after the lines before it.
 ghost use Rattle.std.specs.Prelude.{◌≡◌, ℕ, Bool, true, false, List, [], ◌∷◌, map};
-ghost use Rattle.text.specs.Tokens.{tokens_of};
-ghost use Rattle.grammar.specs.Wants.{form, first_at};
+ghost use Rattle.std.specs.List.{list_any};
+ghost use Rattle.std.specs.Str.{bytes_eq};
+ghost use Rattle.text.specs.Tokens.{Lexeme, told, tokens_of};
+ghost use Rattle.grammar.specs.States.{expects, TestedBy};
+ghost use Rattle.grammar.specs.Wants.{Want, form};
 ghost use Rattle.grammar.specs.declared.state.FileKind.TheVariants.{Rules};
 ghost use Rattle.forms.specs.Met.{met};
 ghost use Rattle.forms.specs.Told.{bytes_of};
 ghost use Rattle.judge.specs.Files.{column_of, some};
 ghost use Rattle.rules.specs.Before.{last_guarded, looks};
-ghost use Rattle.rules.specs.Verdicts.{among, last_is, redeclared, reused};
+ghost use Rattle.rules.specs.Verdicts.{last_is, redeclared, reused};
 
 use forms::rule::RuleLine;
-use grammar::passes::{Test, first_at, wanted_name};
+use grammar::passes::wanted_name;
 use grammar::state::{FileKind, Naming, State};
 use grammar::steps::advance;
 use text::lines::Line;
 use text::placed::Placed;
 use text::tokens::{Token, Tokens};
-use text::words::same;
 
 // Whether a name stands in a list.
 pub fn is_among(name: &[u8], names: &[Placed<&[u8]>]) -> bool
-    ensures { result ≡ among name.now (map bytes_of names.now) }
+    ensures { result ≡ list_any (λ p. bytes_eq (bytes_of p) name.now) names.now }
 {
-    for p in names {
-        if same(p.value, name) {
-            return true;
-        }
-    }
-    false
+    names.iter().any(|p| p.value == name)
 }
 
 // Whether a name is the last of a list.
 fn is_last(name: &[u8], names: &[Placed<&[u8]>]) -> bool
     ensures { result ≡ last_is name.now (map bytes_of names.now) }
 {
-    let n = names.len();
-    n > 0 && same(names[n - 1].value, name)
+    match names {
+        [.., last] => last.value == name,
+        [] => false,
+    }
 }
 
 // Whether the last rule line has a guard.
 pub(crate) fn last_guarded(lines: &[RuleLine]) -> bool
     ensures { result ≡ last_guarded lines.now }
 {
-    let n = lines.len();
-    if n == 0 {
-        return false;
+    match lines {
+        [.., last] => last.guards.len() > 0,
+        [] => false,
     }
-    let last = lines[n - 1];
-    last.guarded > 0
 }
 
 // A material that is declared though it was declared before; void counts as declared.
-#[derive(Clone, Copy)]
-pub(crate) struct Redeclared<'b, 'a> {
-    pub(crate) declared: &'b [Placed<&'a [u8]>],
-}
-
-impl<'b, 'a> Test for Redeclared<'b, 'a> {
-    ghost wrong = { λ s. redeclared (map bytes_of s.declared.now) };
-
-    fn fails(&self, state: State, t: &Token) -> bool {
-        match t {
-            Token::Word(w) => match wanted_name(state) {
-                Some(Naming::Declared) => same(w, b"void") || is_among(w, self.declared),
-                _ => false,
-            },
-            _ => false,
+#[tactic(auto, using(crate::proofs::Lists::among_any))]
+pub(crate) fn is_redeclared(state: State, t: Token, declared: &[Placed<&[u8]>]) -> bool
+    ensures { result ≡ redeclared (map bytes_of declared.now) (expects state) (told t.entry) }
+{
+    match (t, wanted_name(state)) {
+        (Token::Word(w), Some(Naming::Declared)) => {
+            w == b"void".as_slice() || is_among(w, declared)
         }
+        _ => false,
     }
 }
 
 // A rule line's name that was used before, unless the nearest earlier rule line has it and a guard.
-#[derive(Clone, Copy)]
-pub(crate) struct Reused<'b, 'a> {
-    pub(crate) names: &'b [Placed<&'a [u8]>],
-    pub(crate) guarded: bool,
-}
-
-impl<'b, 'a> Test for Reused<'b, 'a> {
-    ghost wrong = { λ s. reused (map bytes_of s.names.now) s.guarded };
-
-    fn fails(&self, state: State, t: &Token) -> bool {
-        match t {
-            Token::Word(w) => match wanted_name(state) {
-                Some(Naming::Own) => {
-                    is_among(w, self.names) && !(is_last(w, self.names) && self.guarded)
-                }
-                _ => false,
-            },
-            _ => false,
+#[tactic(auto, using(crate::proofs::Lists::among_any))]
+pub(crate) fn is_reused(state: State, t: Token, names: &[Placed<&[u8]>], guarded: bool) -> bool
+    ensures { result ≡ reused (map bytes_of names.now) guarded (expects state) (told t.entry) }
+{
+    match (t, wanted_name(state)) {
+        (Token::Word(w), Some(Naming::Own)) => {
+            is_among(w, names) && !(is_last(w, names) && guarded)
         }
+        _ => false,
     }
 }
 
 // A word that names the material that its line declares.
-#[derive(Clone, Copy)]
-pub(crate) struct Declares;
-
-impl Test for Declares {
-    ghost wrong = { λ _. looks false false true false };
-
-    fn fails(&self, state: State, _t: &Token) -> bool {
-        match state {
-            State::MaterialName | State::BodyName(Naming::Declared) => true,
-            _ => false,
-        }
-    }
+pub(crate) fn declares(state: State, _t: Token) -> bool
+    ensures { result ≡ looks false false true false (expects state) (told _t.entry) }
+{
+    matches!(
+        state,
+        State::MaterialName | State::BodyName(Naming::Declared)
+    )
 }
 
 // A word that names the rule line itself.
-#[derive(Clone, Copy)]
-pub(crate) struct NamesItself;
-
-impl Test for NamesItself {
-    ghost wrong = { λ _. looks false false false true };
-
-    fn fails(&self, state: State, _t: &Token) -> bool {
-        match state {
-            State::RuleName | State::BodyName(Naming::Own) => true,
-            _ => false,
-        }
-    }
+pub(crate) fn names_itself(state: State, _t: Token) -> bool
+    ensures { result ≡ looks false false false true (expects state) (told _t.entry) }
+{
+    matches!(state, State::RuleName | State::BodyName(Naming::Own))
 }
 
 // The opening bracket of a part.
-#[derive(Clone, Copy)]
-pub(crate) struct OpensPart;
-
-impl Test for OpensPart {
-    ghost wrong = { λ _. looks false true false false };
-
-    fn fails(&self, state: State, t: &Token) -> bool {
-        match state {
-            State::Parts | State::More => match t {
-                Token::Open => true,
-                _ => false,
-            },
-            _ => false,
-        }
-    }
+pub(crate) fn opens_part(state: State, t: Token) -> bool
+    ensures { result ≡ looks false true false false (expects state) (told t.entry) }
+{
+    matches!((state, t), (State::Parts | State::More, Token::Open))
 }
 
 // The column of the k-th token, from 0, of those that a test picks.
-pub(crate) fn pick<P: Test>(test: &P, line: Line, k: usize) -> Option<usize>
-    ensures { result ≡ column_of k (met (P.wrong test.now) (form Rules ∷ []) (tokens_of line.entry.bytes.now)) }
+pub(crate) fn pick<F: Fn(State, Token) -> bool>(picks: F, line: Line, k: usize) -> Option<usize>
+    requires { F.IsAlwaysCallable picks }
+    ensures { (test : List Want → Lexeme → Bool) → TestedBy (F.post picks) test → result ≡ column_of k (met test (form Rules ∷ []) (tokens_of line.entry.bytes.now)) }
 {
-    let mut tokens = Tokens::of(line);
     let mut state = State::Start(FileKind::Rules);
+    // Stays: the counter goes down at picked tokens alone, so it is no index of the loop.
     let mut left = k;
-    while let Some(t) = tokens.next() {
-        if test.fails(state, &t.value) {
+    for t in Tokens::of(line) {
+        if picks(state, t.value) {
             if left == 0 {
                 return Some(t.column);
             }
             left -= 1;
         }
-        match advance(state, &t.value) {
-            Some(next) => state = next,
-            None => return None,
-        }
+        state = advance(state, &t.value)?;
     }
     None
 }
 
 // Whether a test picks a token of the line.
-pub(crate) fn has<P: Test>(test: &P, line: Line) -> bool
-    ensures { result ≡ some (met (P.wrong test.now) (form Rules ∷ []) (tokens_of line.entry.bytes.now)) }
+pub(crate) fn has<F: Fn(State, Token) -> bool>(picks: F, line: Line) -> bool
+    requires { F.IsAlwaysCallable picks }
+    ensures { (test : List Want → Lexeme → Bool) → TestedBy (F.post picks) test → result ≡ some (met test (form Rules ∷ []) (tokens_of line.entry.bytes.now)) }
 {
-    pick(test, line, 0).is_some()
+    pick(picks, line, 0).is_some()
 }

@@ -1,6 +1,6 @@
 // Making a book, and questions to it.
 ghost use Rattle.std.specs.Prelude.{◌≡◌, ◌≤◌, length, IfOk};
-ghost use Rattle.rules.specs.Pages.{pages_of, no_pages};
+ghost use Rattle.rules.specs.Pages.{no_pages};
 
 use crate::rule_book::Book;
 use bounded::bounded::BoundedVec;
@@ -11,7 +11,7 @@ use text::placed::Placed;
 impl<'a> Book<'a> {
     // An empty book with its memory reserved.
     pub fn new(heap: Global) -> Result<Book<'a>, AllocError>
-        ensures { IfOk result (λ b. pages_of b ≡ no_pages) }
+        ensures { IfOk result (λ b. b ≡ no_pages) }
     {
         let materials = BoundedVec::new(heap)?;
         let names = BoundedVec::new(heap)?;
@@ -26,48 +26,37 @@ impl<'a> Book<'a> {
         })
     }
 
-    // Empties the book; the memory stays.
-    pub fn clear(&mut self)
-        ensures { pages_of self.new ≡ no_pages }
-    {
-        self.materials.clear();
-        self.names.clear();
-        self.lines.clear();
-        self.uses.clear();
-        self.parts = 0;
-    }
-
     // The names of the declared materials, in the order of their numbers from 1 on.
     pub fn materials(&self) -> &[Placed<&'a [u8]>]
-        ensures { result.now ≡ (pages_of self.now).materials }
+        ensures { result.now ≡ self.now.materials }
     {
         self.materials.as_slice()
     }
 
     // The names of the rule lines.
     pub fn names(&self) -> &[Placed<&'a [u8]>]
-        ensures { result.now ≡ (pages_of self.now).names }
+        ensures { result.now ≡ self.now.names }
     {
         self.names.as_slice()
     }
 
     // The rule lines without their names.
     pub fn lines(&self) -> &[RuleLine]
-        ensures { result.now ≡ (pages_of self.now).lines }
+        ensures { result.now ≡ self.now.lines }
     {
         self.lines.as_slice()
     }
 
     // The names that the bodies of the rule lines use.
     pub fn uses(&self) -> &[Placed<&'a [u8]>]
-        ensures { result.now ≡ (pages_of self.now).uses }
+        ensures { result.now ≡ self.now.uses }
     {
         self.uses.as_slice()
     }
 
     // How many parts the splits have, all together.
     pub fn part_count(&self) -> usize
-        ensures { result ≡ (pages_of self.now).parts }
+        ensures { result ≡ self.now.parts }
     {
         self.parts
     }

@@ -1,14 +1,16 @@
 // What was read of a rule file, in the order of the file: the declared materials, the rule lines with their names, the names
 // that their bodies use, and the number of all parts. Memory for all that a book may hold is reserved when it is made.
 use bounded::bounded::BoundedVec;
+use forms::lists::{RuleNames, Uses};
 use forms::rule::RuleLine;
 use text::placed::Placed;
 
+// Stays: the names of the rule lines are a list of their own, since they are handed out as one slice to look for a name in.
 #[derive(Drop)]
 pub struct Book<'a> {
     pub(crate) materials: BoundedVec<Placed<&'a [u8]>, 15>,
-    pub(crate) names: BoundedVec<Placed<&'a [u8]>, 64>,
+    pub(crate) names: RuleNames<'a>,
     pub(crate) lines: BoundedVec<RuleLine, 64>,
-    pub(crate) uses: BoundedVec<Placed<&'a [u8]>, 1024>,
+    pub(crate) uses: Uses<'a>,
     pub(crate) parts: usize,
 }

@@ -1,13 +1,13 @@
-use Rattle.std.proofs.Common.{Bool, ltb, sym, ap, ◌∙◌, arith}
+use Rattle.std.proofs.Common.{Bool, ltb, length, sym, ap, ◌∙◌, arith}
+use Rattle.forms.specs.Told.{guards_of}
 use Rattle.forms.specs.declared.rule.RuleLine.{RuleLine}
-use Rattle.rules.proofs.Lists.{last_is_lem, last_none}
+use Rattle.rules.proofs.Lists.{last_is_lem}
 use Rattle.rules.proofs.passes.last_guarded.Goals as goal
 
 abbrev guards : RuleLine → Bool
-guards r = ltb 0 r.guarded
+guards r = ltb 0 (length (guards_of r))
 
-pub returns-then-n-eq0 : goal.returns-then-n-eq0
-returns-then-n-eq0 c = sym (last_none guards c.args.lines.now (omega arith))
-
-pub returns : goal.returns
-returns c = ap guards c.index-lines-n.is ∙ sym (last_is_lem guards c.args.lines.now c.index-lines-n.result (omega arith))
+pub returns-in-len1-up : goal.returns-in-len1-up
+returns-in-len1-up c =
+    ap (ltb 0) c.len.ensures.value
+    ∙ (ap guards c.last-item.is ∙ sym (last_is_lem guards c.args.lines.now c.last-item.result (omega arith)))

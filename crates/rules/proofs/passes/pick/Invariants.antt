@@ -1,14 +1,13 @@
-use Rattle.std.proofs.Common.{◌≡◌, length}
-use Rattle.text.specs.Tokens.{tokens_left}
-use Rattle.grammar.specs.States.{expects}
+use Rattle.std.proofs.Common.{◌≡◌, Bool, List}
+use Rattle.text.specs.Tokens.{Lexeme, tokens_left, tokens_of}
+use Rattle.grammar.specs.States.{expects, TestedBy}
+use Rattle.grammar.specs.Wants.{Want}
 use Rattle.forms.specs.Met.{met}
 use Rattle.judge.specs.Files.{column_of}
 use Rattle.rules.proofs.passes.pick.Given as goal
 
 abbrev pub invariant-loop-t : goal.invariant-loop-t
 invariant-loop-t g l =
-    column_of l.left (met (g.P.Test.wrong l.test) (expects l.state) (tokens_left l.tokens))
-    ≡ column_of l.initial.left (met (g.P.Test.wrong l.test) (expects l.initial.state) (tokens_left l.initial.tokens))
-
-abbrev pub decreases-loop-t : goal.decreases-loop-t
-decreases-loop-t g l = length (tokens_left l.tokens)
+    (test : List Want → Lexeme → Bool) → TestedBy (goal.F-post g l.fn.picks) test
+    → column_of l.left (met test (expects l.state) (tokens_left l.t-iterator))
+    ≡ column_of l.fn.k (met test (expects l.initial.state) (tokens_of l.fn.line.bytes.now))
