@@ -2,10 +2,11 @@
 ghost use Rattle.std.specs.Prelude.{◌≡◌};
 ghost use Rattle.sinks.specs.Refusals.{number};
 
+// Each is told by its number.
 #[derive(Clone, Copy, PartialEq, Eq)]
 pub enum SinkRefusal {
-    NoSuch,
-    NoRoom,
+    NoSuch = 35,
+    NoRoom = 53,
     OverLimit,
     ShortBuffer,
 }
@@ -15,11 +16,6 @@ impl SinkRefusal {
     pub fn number(self) -> u8
         ensures { result ≡ number self }
     {
-        match self {
-            SinkRefusal::NoSuch => 35,
-            SinkRefusal::NoRoom => 53,
-            SinkRefusal::OverLimit => 54,
-            SinkRefusal::ShortBuffer => 55,
-        }
+        self as u8
     }
 }
