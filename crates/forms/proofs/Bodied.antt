@@ -24,7 +24,7 @@ use Rattle.forms.specs.Told.{Name, bytes_of, placed_word, axis_of, part_forms, s
 use Rattle.forms.specs.declared.shape.Shape.TheVariants.{Make as MakeShape, Use as UseShape, Repeat as RepeatShape, Split as SplitShape}
 use Rattle.forms.specs.declared.words.Head.TheVariants.{Make, Use, Repeat, Split}
 use Rattle.forms.proofs.Cleaned.{axis_clean, number_clean}
-use Rattle.rows.proofs.Fills.{parts_few}
+use Rattle.bounded.proofs.Listed.{listed_few}
 
 module _ (room : ℕ) (before after : List Name) (s t : Tokens) (h : UseTo before after s t) where
   pub make_body : BodyTo Make room before after s t MakeShape
@@ -111,7 +111,7 @@ split_body room before after s t u v a b ps d e h =
       used = h.past.used;
       grown = h.past.grown;
       counted = h.past.counted;
-      few = omega (arith, h.past.counted, parts_few ps);
+      few = omega (arith, h.past.counted, listed_few ps.parts);
       spelled =
           ap (λ x. opening ∷ word (codes "split") ∷ plain x) all
           ∙ (ap (λ x. opening ∷ word (codes "split") ∷ axis_at a.value ∷ x) h.past.spelled

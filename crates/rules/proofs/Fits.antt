@@ -5,7 +5,7 @@ use Rattle.std.proofs.lemmas.List.{length-map, length-append, length-take, lengt
 use Rattle.std.proofs.lemmas.Bool.{and_parts, and_from, leb-true, le-leb, eq-eqb}
 use Rattle.book.specs.Checks.{every}
 use Rattle.rows.specs.Parts.{most_parts}
-use Rattle.rows.proofs.Fills.{parts_few}
+use Rattle.bounded.proofs.Listed.{listed_few}
 use Rattle.grammar.specs.Forms.{material}
 use Rattle.forms.specs.Told.{Name, bytes_of, uses_of, rule_of}
 use Rattle.forms.specs.declared.rule.RuleLine.{RuleLine}
@@ -22,7 +22,7 @@ uses_few : (s : Shape) → uses_of s ≤ most_parts
 uses_few Make = omega arith
 uses_few Use = omega arith
 uses_few (Repeat a t) = omega arith
-uses_few (Split a p) = parts_few p
+uses_few (Split a p) = listed_few p.parts
 
 -- lines that use names among the first m use them among the first n, and so with one line more
 inside_more : (m n : ℕ) (rs : List RuleLine) (r : RuleLine) → m ≤ n → every (inside m) rs ≡ true → inside n r ≡ true → every (inside n) (rs ++ r ∷ []) ≡ true
