@@ -3,8 +3,8 @@ use Rattle.std.specs.Prelude.{◌≡◌, ℕ, cond, List, [], ◌∷◌, ◌++�
 use Rattle.grammar.specs.declared.state.FileKind.TheVariants.{Rules, Lots}
 use Rattle.judge.specs.declared.faults.Fault.TheVariants.{Misplaced, NoLot}
 use Rattle.steps.specs.declared.stop.Ending.TheVariants.{Done, Spent}
-use Rattle.texts.specs.LongLines.{numbers_text}
-use Rattle.texts.specs.declared.long_line.LongKind.TheVariants as line
+use Rattle.texts.specs.Lines.{line_text}
+use Rattle.texts.specs.declared.line.LineKind.TheVariants as line
 use Rattle.sheet_text.specs.Told.{ending_text, refused_text, sheet_text}
 
 -- a line with its line feed
@@ -20,10 +20,10 @@ abbrev pub Lines : Type 0
 Lines =
     (ending_text 12 Done ≡ fed (codes "(done 12)"))
     × (ending_text 0 Spent ≡ fed (codes "(spent 0)"))
-    × (numbers_text line.Stop 32 (5 ∷ 0 ∷ 90 ∷ 16383 ∷ 200 ∷ 100 ∷ 1 ∷ []) ≡ fed (codes "(stop 32 5 0 90 16383 200 100 1)"))
+    × (line_text line.Stop 32 (5 ∷ 0 ∷ 90 ∷ 16383 ∷ 200 ∷ 100 ∷ 1 ∷ []) ≡ fed (codes "(stop 32 5 0 90 16383 200 100 1)"))
     × (refused_text Rules (record { value = Misplaced; line = 3; column = 17 }) ≡ fed (codes "(refused rules 14 3 17)"))
     × (refused_text Lots (record { value = NoLot; line = 0; column = 0 }) ≡ fed (codes "(refused lots 24 0 0)"))
-    × (numbers_text line.Block 2 (0 ∷ 90 ∷ 0 ∷ 200 ∷ 100 ∷ 300 ∷ []) ≡ fed (codes "(block 2 0 90 0 200 100 300)"))
+    × (line_text line.Block 2 (0 ∷ 90 ∷ 0 ∷ 200 ∷ 100 ∷ 300 ∷ []) ≡ fed (codes "(block 2 0 90 0 200 100 300)"))
 
 -- a whole sheet
 abbrev pub Whole : Type 0

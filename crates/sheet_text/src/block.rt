@@ -1,31 +1,23 @@
 // The line of a block.
 ghost use Rattle.std.specs.Prelude.{◌≡◌, ◌≤◌, length};
 ghost use Rattle.sinks.specs.Meaning.{HandsOut};
-ghost use Rattle.texts.specs.LongLines.{long_text};
+ghost use Rattle.texts.specs.Lines.{text_of};
 ghost use Rattle.sheet_text.specs.Told.{block_line};
 
+use crate::boxes::box_numbers;
 use crate::limits::LINE_BYTES;
+use bounded::inline::InlineVec;
 use geometry::block::Block;
 use sinks::refusal::SinkRefusal;
-use texts::long_line::{LongKind, LongLine};
+use texts::line::{Line, LineKind};
 
-fn block_line(block: Block) -> LongLine
-    ensures { long_text result ≡ block_line block }
+fn block_line(block: Block) -> Line<6>
+    ensures { text_of result ≡ block_line block }
 {
-    let cuboid = block.cuboid;
-    LongLine {
-        kind: LongKind::Block,
-        first: block.material as u64,
-        others: [
-            cuboid.x.at.0 as u64,
-            cuboid.y.at.0 as u64,
-            cuboid.z.at.0 as u64,
-            cuboid.x.size.0 as u64,
-            cuboid.y.size.0 as u64,
-            cuboid.z.size.0 as u64,
-            0,
-        ],
-        many: 6,
+    Line {
+        kind: LineKind::Block,
+        first: u64::from(block.material),
+        others: InlineVec::from(box_numbers(block.cuboid)),
     }
 }
 

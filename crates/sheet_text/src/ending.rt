@@ -2,53 +2,45 @@
 ghost use Rattle.std.specs.Prelude.{◌≡◌, ◌≤◌, [], length};
 ghost use Rattle.sinks.specs.Meaning.{HandsOut};
 ghost use Rattle.steps.specs.declared.stop.Ending.TheVariants.{Stopped};
-ghost use Rattle.texts.specs.LongLines.{numbers_text, long_text};
+ghost use Rattle.texts.specs.Lines.{line_text, text_of};
 ghost use Rattle.sheet_text.specs.Told.{ending_text};
 
+use crate::boxes::box_numbers;
 use crate::limits::LINE_BYTES;
+use bounded::inline::InlineVec;
 use sinks::refusal::SinkRefusal;
 use steps::stop::{Ending, Stop};
-use texts::long_line::{LongKind, LongLine};
+use texts::line::{Line, LineKind};
 
 // A line with the number of steps.
-fn steps_line(kind: LongKind, steps: u32) -> LongLine
-    ensures { long_text result ≡ numbers_text kind steps [] }
+fn steps_line(kind: LineKind, steps: u32) -> Line<7>
+    ensures { text_of result ≡ line_text kind steps [] }
 {
-    LongLine {
+    Line {
         kind,
-        first: steps as u64,
-        others: [0; 7],
-        many: 0,
+        first: u64::from(steps),
+        others: InlineVec::new(0),
     }
 }
 
-fn stop_line(stop: Stop) -> LongLine
-    ensures { long_text result ≡ ending_text 0 (Stopped stop) }
+fn stop_line(stop: Stop) -> Line<7>
+    ensures { text_of result ≡ ending_text 0 (Stopped stop) }
 {
-    let cuboid = stop.scope.cuboid;
-    LongLine {
-        kind: LongKind::Stop,
-        first: stop.number() as u64,
-        others: [
-            stop.line as u64,
-            cuboid.x.at.0 as u64,
-            cuboid.y.at.0 as u64,
-            cuboid.z.at.0 as u64,
-            cuboid.x.size.0 as u64,
-            cuboid.y.size.0 as u64,
-            cuboid.z.size.0 as u64,
-        ],
-        many: 7,
+    let [x, y, z, dx, dy, dz] = box_numbers(stop.scope.cuboid);
+    Line {
+        kind: LineKind::Stop,
+        first: u64::from(stop.number()),
+        others: InlineVec::from([u64::from(stop.line), x, y, z, dx, dy, dz]),
     }
 }
 
 // The last line of a sheet.
-pub(crate) fn ending_line(steps: u32, ending: Ending) -> LongLine
-    ensures { long_text result ≡ ending_text steps ending }
+pub(crate) fn ending_line(steps: u32, ending: Ending) -> Line<7>
+    ensures { text_of result ≡ ending_text steps ending }
 {
     match ending {
-        Ending::Done => steps_line(LongKind::Done, steps),
-        Ending::Spent => steps_line(LongKind::Spent, steps),
+        Ending::Done => steps_line(LineKind::Done, steps),
+        Ending::Spent => steps_line(LineKind::Spent, steps),
         Ending::Stopped(stop) => stop_line(stop),
     }
 }

@@ -2,6 +2,7 @@
 #![tactic(auto)]
 
 pub mod block;
+mod boxes;
 pub mod cases;
 pub mod ending;
 pub mod limits;

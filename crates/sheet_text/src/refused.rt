@@ -1,33 +1,34 @@
 // The line of a refused file.
 ghost use Rattle.std.specs.Prelude.{◌≡◌, ◌≤◌, length};
 ghost use Rattle.sinks.specs.Meaning.{HandsOut};
-ghost use Rattle.texts.specs.LongLines.{long_text};
+ghost use Rattle.texts.specs.Lines.{text_of};
 ghost use Rattle.sheet_text.specs.Told.{refused_kind, refused_text};
 
 use crate::limits::LINE_BYTES;
+use bounded::inline::InlineVec;
 use grammar::state::FileKind;
-use judge::faults::{Fault, number_of};
+use judge::faults::Fault;
 use sinks::refusal::SinkRefusal;
 use text::placed::Placed;
-use texts::long_line::{LongKind, LongLine};
+use texts::line::{Line, LineKind};
 
-fn refused_kind(file: FileKind) -> LongKind
+fn refused_kind(file: FileKind) -> LineKind
     ensures { result ≡ refused_kind file }
 {
     match file {
-        FileKind::Rules => LongKind::RulesRefused,
-        FileKind::Lots => LongKind::LotsRefused,
+        FileKind::Rules => LineKind::RulesRefused,
+        FileKind::Lots => LineKind::LotsRefused,
     }
 }
 
-fn refused_line(file: FileKind, refusal: Placed<Fault>) -> LongLine
-    ensures { long_text result ≡ refused_text file refusal }
+fn refused_line(file: FileKind, refusal: Placed<Fault>) -> Line<2>
+    ensures { text_of result ≡ refused_text file refusal }
 {
-    LongLine {
+    let place = [refusal.line as u64, refusal.column as u64];
+    Line {
         kind: refused_kind(file),
-        first: number_of(refusal.value) as u64,
-        others: [refusal.line as u64, refusal.column as u64, 0, 0, 0, 0, 0],
-        many: 2,
+        first: u64::from(refusal.value.number()),
+        others: InlineVec::from(place),
     }
 }
 
