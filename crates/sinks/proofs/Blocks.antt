@@ -1,7 +1,7 @@
 -- Sums over lists of blocks.
-use Rattle.std.proofs.Common.{◌≡◌, ℕ, ◌+◌, ◌<◌, ◌≤◌, min, List, [], ◌∷◌, ◌++◌, length, get_or, take, set, refl, sym, ap, ◌∙◌, ⊎_elim, mul-le-mul, arith}
+use Rattle.std.proofs.Common.{◌≡◌, ℕ, ◌+◌, ◌<◌, ◌≤◌, min, List, [], ◌∷◌, ◌++◌, length, take, set, refl, sym, ap, ◌∙◌, ⊎_elim, mul-le-mul, arith}
 use native.Mathlib.Nat.{min-eq_left, min-eq_right}
-use Rattle.std.proofs.lemmas.List.{take_more_set, take_more, take_all}
+use Rattle.std.proofs.lemmas.List.{take_more_set, take_all}
 use Rattle.std.specs.List.{sum_by}
 use Rattle.std.proofs.lemmas.List.Sums.{sum_by-cons}
 use Rattle.std.proofs.lemmas.Bool.{cases_lt}
@@ -16,10 +16,7 @@ pub sum_of_push : {X : Type 0} (f : X → ℕ) (xs : List X) (x : X) → sum_of 
 sum_of_push f [] x = omega arith
 sum_of_push f (y ∷ xs) x = omega (arith, sum_of_push f xs x)
 
--- one entry more of a list, as it was and after a write
-pub sum_of_more : {X : Type 0} (f : X → ℕ) (xs : List X) (n : ℕ) (d : X) → n < length xs → sum_of f (take (n + 1) xs) ≡ sum_of f (take n xs) + f (get_or xs n d)
-sum_of_more f xs n d h = ap (sum_of f) (take_more xs n d h) ∙ sum_of_push f (take n xs) (get_or xs n d)
-
+-- one entry more of a list after a write
 pub sum_of_set : {X : Type 0} (f : X → ℕ) (xs : List X) (n : ℕ) (x : X) → n < length xs → sum_of f (take (n + 1) (set xs n x)) ≡ sum_of f (take n xs) + f x
 sum_of_set f xs n x h = ap (sum_of f) (take_more_set xs n x h) ∙ sum_of_push f (take n xs) x
 

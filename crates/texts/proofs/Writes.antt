@@ -16,10 +16,6 @@ lent_from xs ys w at h e =
 pub wrote_is : {xs ys u v : List ℕ} {at to : ℕ} → u ≡ v → Wrote xs at u ys to → Wrote xs at v ys to
 wrote_is {xs} {ys} {u} {v} {at} {to} e w = let P : List ℕ → Type 0 = λ t. Wrote xs at t ys to in subst P e w
 
--- a text that was written over the start of a buffer was handed out
-pub wrote_start : {xs w ys : List ℕ} {n : ℕ} → Wrote xs 0 w ys n → length w ≤ length xs → (n ≡ length w) × (length w ≤ length xs) × (ys ≡ over xs w)
-wrote_start w h = (omega (arith, w.value), h, w.after)
-
 -- the text up to its end, and the bytes beyond
 wrote_length : {xs w ys : List ℕ} {at to : ℕ} → at ≤ length xs → Wrote xs at w ys to → length (take at xs ++ w) ≡ to
 wrote_length {xs} {w} {ys} {at} {to} h p = omega (arith, length-append (take at xs) w, length-take-le at xs h, p.value)

@@ -19,6 +19,7 @@ use sinks::tally::Tallies;
 
 #[derive(Drop)]
 pub struct ObjText<'b> {
+    // Stays: the text lies in memory that the caller lends, and the buffer is passed whole.
     out: &'b mut [u8],
     used: usize,
     tallies: Tallies,
