@@ -1,141 +1,101 @@
 // Bodies to compare: a table that covers every kind, and bodies at random.
 use geometry::units::{Mm, Weight};
 use rows::size::Size;
-
-// What the parts of a split ask for: the first `count` of `sizes`.
-#[derive(Clone, Copy)]
-pub struct Body {
-    sizes: [Size; 16],
-    count: usize,
-}
-
-impl Body {
-    fn new() -> Body {
-        Body {
-            sizes: [float(1); 16],
-            count: 0,
-        }
-    }
-
-    fn push(&mut self, size: Size) {
-        let at = self.count;
-        if at < 16 {
-            self.sizes[at] = size;
-            self.count = at + 1;
-        }
-    }
-
-    fn of(sizes: &[Size]) -> Body {
-        let mut body = Body::new();
-        for size in sizes {
-            body.push(*size);
-        }
-        body
-    }
-
-    pub fn as_slice(&self) -> &[Size] {
-        &self.sizes[0..self.count.min(16)]
-    }
-}
+use rows::size::Size::{Fix, Float};
+use std::alloc::{AllocError, Global};
 
 fn fix(length: u32) -> Size {
-    Size::Fix(Mm(length))
+    Fix(Mm(length))
 }
 
 fn float(weight: u32) -> Size {
-    Size::Float(Weight(weight))
+    Float(Weight(weight))
 }
+
+// What the parts of each split ask for.
+pub const LISTED: [&[Size]; 18] = [
+    &[
+        Fix(Mm(200)),
+        Float(Weight(1)),
+        Float(Weight(1)),
+        Float(Weight(1)),
+    ],
+    &[Float(Weight(1)), Float(Weight(2)), Float(Weight(4))],
+    &[Float(Weight(1)), Float(Weight(9))],
+    &[Float(Weight(1)), Float(Weight(1))],
+    &[Fix(Mm(200)), Float(Weight(1))],
+    &[Fix(Mm(200))],
+    &[Float(Weight(1))],
+    &[Float(Weight(1_000))],
+    &[
+        Float(Weight(1)),
+        Fix(Mm(100)),
+        Float(Weight(1)),
+        Fix(Mm(100)),
+        Float(Weight(1)),
+    ],
+    &[Float(Weight(1_000)), Float(Weight(1))],
+    &[Float(Weight(1)), Float(Weight(1_000))],
+    &[Fix(Mm(1)), Fix(Mm(2)), Fix(Mm(3))],
+    &[Fix(Mm(1_000)), Fix(Mm(999)), Float(Weight(7))],
+    &[
+        Float(Weight(3)),
+        Float(Weight(3)),
+        Float(Weight(3)),
+        Float(Weight(2)),
+        Float(Weight(2)),
+        Float(Weight(1)),
+    ],
+    &[Float(Weight(999)), Float(Weight(998)), Float(Weight(997))],
+    &[Fix(Mm(16_384)), Float(Weight(1))],
+    &[
+        Float(Weight(2)),
+        Fix(Mm(500)),
+        Float(Weight(2)),
+        Float(Weight(1)),
+    ],
+    &[
+        Fix(Mm(10)),
+        Float(Weight(1)),
+        Fix(Mm(10)),
+        Float(Weight(1)),
+        Fix(Mm(10)),
+        Float(Weight(1)),
+        Fix(Mm(10)),
+        Float(Weight(1)),
+        Fix(Mm(10)),
+    ],
+];
+
+// By how much the weights of sixteen floating parts rise.
+pub const STEPS: [u32; 4] = [0, 1, 2, 60];
+
+pub const TILES: [u32; 12] = [1, 2, 3, 7, 15, 16, 31, 64, 100, 900, 1_999, 16_384];
 
 // Sixteen floating parts of rising weights.
-fn rising(step: u32) -> Body {
-    let mut body = Body::new();
-    for i in 0..16u32 {
-        body.push(float(i.wrapping_mul(step).saturating_add(1)));
-    }
-    body
-}
-
-pub const BODIES: u32 = 30;
-
-pub fn listed(k: u32) -> Body {
-    match k {
-        0 => Body::of(&[fix(200), float(1), float(1), float(1)]),
-        1 => Body::of(&[float(1), float(2), float(4)]),
-        2 => Body::of(&[float(1), float(9)]),
-        3 => Body::of(&[float(1), float(1)]),
-        4 => Body::of(&[fix(200), float(1)]),
-        5 => Body::of(&[fix(200)]),
-        6 => Body::of(&[float(1)]),
-        7 => Body::of(&[float(1_000)]),
-        8 => Body::of(&[float(1), fix(100), float(1), fix(100), float(1)]),
-        9 => Body::of(&[float(1_000), float(1)]),
-        10 => Body::of(&[float(1), float(1_000)]),
-        11 => Body::of(&[fix(1), fix(2), fix(3)]),
-        12 => Body::of(&[fix(1_000), fix(999), float(7)]),
-        13 => Body::of(&[float(3), float(3), float(3), float(2), float(2), float(1)]),
-        14 => Body::of(&[float(999), float(998), float(997)]),
-        15 => Body::of(&[fix(16_384), float(1)]),
-        16 => Body::of(&[float(2), fix(500), float(2), float(1)]),
-        17 => Body::of(&[
-            fix(10),
-            float(1),
-            fix(10),
-            float(1),
-            fix(10),
-            float(1),
-            fix(10),
-            float(1),
-            fix(10),
-        ]),
-        18 => rising(0),
-        19 => rising(1),
-        20 => rising(2),
-        21 => rising(60),
-        _ => mixed(k),
-    }
+pub fn rising(alloc: Global, step: u32) -> Result<Vec<Size>, AllocError> {
+    (0..16u32)
+        .map(|i| float(i.wrapping_mul(step).saturating_add(1)))
+        .collect(alloc)
 }
 
 // Fixed and floating parts by turns, fewer or more of them.
-fn mixed(k: u32) -> Body {
-    let mut body = Body::new();
-    for i in 0..k.saturating_sub(20).min(16) {
-        if i % 3 == 0 {
-            body.push(fix(i.wrapping_mul(k).saturating_add(1)));
-        } else {
-            body.push(float(i.wrapping_mul(7) % 5 + 1));
-        }
-    }
-    body
-}
-
-pub const TILES: u32 = 12;
-
-pub fn tile_length(k: u32) -> u32 {
-    match k {
-        0 => 1,
-        1 => 2,
-        2 => 3,
-        3 => 7,
-        4 => 15,
-        5 => 16,
-        6 => 31,
-        7 => 64,
-        8 => 100,
-        9 => 900,
-        10 => 1_999,
-        _ => 16_384,
-    }
+pub fn mixed(alloc: Global, k: u32) -> Result<Vec<Size>, AllocError> {
+    (0..k.saturating_sub(20).min(16))
+        .map(|i| {
+            if i % 3 == 0 {
+                fix(i.wrapping_mul(k).saturating_add(1))
+            } else {
+                float(i.wrapping_mul(7) % 5 + 1)
+            }
+        })
+        .collect(alloc)
 }
 
 // Numbers from a linear congruence of 64 bits, its high half.
+#[derive(Drop)]
 pub struct Random {
     state: u64,
-}
-
-impl Drop for Random {
-    fn drop(self) {
-        let Random { state: _ } = self;
-    }
 }
 
 impl Random {
@@ -155,22 +115,15 @@ impl Random {
 
     fn size(&mut self, longest: u32) -> Size {
         if self.up_to(3) == 1 {
-            let length = self.up_to(longest);
-            fix(length)
+            fix(self.up_to(longest))
         } else {
-            let weight = self.up_to(1_000);
-            float(weight)
+            float(self.up_to(1_000))
         }
     }
 
-    pub fn next_body(&mut self) -> Body {
-        let mut body = Body::new();
+    pub fn next_body(&mut self, alloc: Global) -> Result<Vec<Size>, AllocError> {
         let longest = self.up_to(4_000);
         let count = self.up_to(16);
-        for _ in 0..count {
-            let size = self.size(longest);
-            body.push(size);
-        }
-        body
+        (0..count).map(|_| self.size(longest)).collect(alloc)
     }
 }

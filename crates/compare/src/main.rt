@@ -5,8 +5,8 @@ mod bodies;
 mod second;
 mod tally;
 
-use anyhow::anyhow;
-use bodies::{BODIES, Random, TILES, listed, tile_length};
+use anyhow::{Context, Result};
+use bodies::{LISTED, Random, STEPS, TILES, mixed, rising};
 use geometry::units::Mm;
 use rows::parts::Parts;
 use rows::refusal::RowRefusal;
@@ -15,88 +15,107 @@ use rows::row::Row;
 use rows::size::Size;
 use rows::split::split;
 use rows::tile::Tile;
-use second::{Told, second_repeat, second_split};
+use second::{Refused, Told, second_repeat, second_split};
+use std::alloc::{AllocError, Global};
 use tally::Tally;
 
 // What the library answers, in the words of the second apportioner.
-fn told(answer: Result<Row, RowRefusal>) -> Told {
-    let mut told = Told::new();
+fn told(alloc: Global, answer: Result<Row, RowRefusal>) -> Result<Told, AllocError> {
     match answer {
-        Ok(row) => {
-            for segment in row.as_slice() {
-                told.push(segment.length.0 as u64);
+        Ok(row) => Ok(Ok(
+            row.as_slice()
+                .iter()
+                .map(|segment| segment.length.0 as u64)
+                .collect(alloc)?,
+        )),
+        Err(refusal) => Ok(Err(Refused {
+            number: refusal.number(),
+            part: refusal.part(),
+        })),
+    }
+}
+
+// The answers compared so far, and the memory for the next ones.
+#[derive(Drop)]
+struct Comparison {
+    alloc: Global,
+    tally: Tally,
+}
+
+impl Comparison {
+    fn split(&mut self, length: u32, sizes: &[Size], parts: &Parts) -> Result<()> {
+        let first = told(self.alloc, split(Mm(length), parts))?;
+        let second = second_split(self.alloc, length as u64, sizes)?;
+        self.tally.count(&first, &second)?;
+        Ok(())
+    }
+
+    fn repeat(&mut self, length: u32, tile: Tile) -> Result<()> {
+        let first = told(self.alloc, repeat(Mm(length), tile))?;
+        let second = second_repeat(self.alloc, length as u64, tile.length.0 as u64)?;
+        self.tally.count(&first, &second)?;
+        Ok(())
+    }
+
+    // A body in every length from 1 to 2,000.
+    fn body(&mut self, sizes: &[Size]) -> Result<()> {
+        let parts = parts(sizes)?;
+        for length in 1..2_001 {
+            self.split(length, sizes, &parts)?;
+        }
+        Ok(())
+    }
+
+    // Every body and every tile of the tables.
+    fn tables(&mut self) -> Result<()> {
+        for sizes in LISTED {
+            self.body(sizes)?;
+        }
+        for step in STEPS {
+            self.body(&rising(self.alloc, step)?)?;
+        }
+        for k in 22..30 {
+            self.body(&mixed(self.alloc, k)?)?;
+        }
+        for tile in TILES {
+            let tile = tile_of(tile)?;
+            for length in 1..2_001 {
+                self.repeat(length, tile)?;
             }
         }
-        Err(refusal) => told.refuse(refusal.number(), refusal.part()),
+        Ok(())
     }
-    told
-}
 
-fn parts(sizes: &[Size]) -> anyhow::Result<Parts> {
-    match Parts::from_sizes(sizes) {
-        Some(parts) => Ok(parts),
-        None => Err(anyhow!("a part out of range")),
-    }
-}
-
-fn tile_of(length: u32) -> anyhow::Result<Tile> {
-    match Tile::new(Mm(length)) {
-        Some(tile) => Ok(tile),
-        None => Err(anyhow!("a tile out of range")),
-    }
-}
-
-fn compare_split(tally: &mut Tally, length: u32, sizes: &[Size], parts: &Parts) {
-    let first = told(split(Mm(length), parts));
-    let second = second_split(length as u64, sizes);
-    tally.count(&first, &second);
-}
-
-fn compare_repeat(tally: &mut Tally, length: u32, tile: Tile) {
-    let first = told(repeat(Mm(length), tile));
-    let second = second_repeat(length as u64, tile.length.0 as u64);
-    tally.count(&first, &second);
-}
-
-// Every length from 1 to 2,000 for each body of the tables.
-fn tables(tally: &mut Tally) -> anyhow::Result<()> {
-    for k in 0..BODIES {
-        let body = listed(k);
-        let parts = parts(body.as_slice())?;
-        for length in 1..2_001 {
-            compare_split(tally, length, body.as_slice(), &parts);
+    // Bodies and lengths at random over their whole ranges.
+    fn at_random(&mut self) -> Result<()> {
+        let mut random = Random::new();
+        for _ in 0..60_000u32 {
+            let sizes = random.next_body(self.alloc)?;
+            let parts = parts(&sizes)?;
+            let length = random.up_to(16_384);
+            self.split(length, &sizes, &parts)?;
+            let tile = tile_of(random.up_to(16_384))?;
+            self.repeat(random.up_to(16_384), tile)?;
         }
+        Ok(())
     }
-    for k in 0..TILES {
-        let tile = tile_of(tile_length(k))?;
-        for length in 1..2_001 {
-            compare_repeat(tally, length, tile);
-        }
-    }
-    Ok(())
 }
 
-// Bodies and lengths at random over their whole ranges.
-fn at_random(tally: &mut Tally) -> anyhow::Result<()> {
-    let mut random = Random::new();
-    for _ in 0..60_000u32 {
-        let body = random.next_body();
-        let parts = parts(body.as_slice())?;
-        let length = random.up_to(16_384);
-        compare_split(tally, length, body.as_slice(), &parts);
-        let tile = tile_of(random.up_to(16_384))?;
-        compare_repeat(tally, random.up_to(16_384), tile);
-    }
-    Ok(())
+fn parts(sizes: &[Size]) -> Result<Parts> {
+    Parts::from_sizes(sizes).context("a part out of range")
 }
 
-fn run(rt: &HostRuntime) -> anyhow::Result<()> {
-    let mut tally = Tally::new();
-    tables(&mut tally)?;
-    at_random(&mut tally)?;
-    tally.print(rt)
+fn tile_of(length: u32) -> Result<Tile> {
+    Tile::new(Mm(length)).context("a tile out of range")
 }
 
-fn main(rt: HostRuntime) -> anyhow::Result<()> {
-    run(&rt)
+fn main(rt: HostRuntime) -> Result<()> {
+    let alloc = rt.alloc();
+    let mut comparison = Comparison {
+        alloc,
+        tally: Tally::new(alloc),
+    };
+    comparison.tables()?;
+    comparison.at_random()?;
+    comparison.tally.print(&rt)
 }

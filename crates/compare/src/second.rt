@@ -1,183 +1,125 @@
 // A second apportioner: the spare millimetres are handed out one at a time, each to the part that waits with the largest remainder.
+use geometry::units::Weight;
 use rows::size::Size;
+use std::alloc::{AllocError, Global};
+use std::cmp::Reverse;
 
-// A row, or a refusal with its number and the part that it names.
-#[derive(Clone, Copy)]
-pub struct Told {
+// A refusal: its number and the part that it names.
+#[derive(Clone, Copy, PartialEq, Eq, Debug)]
+pub struct Refused {
     pub number: u32,
     pub part: u32,
-    pub lengths: [u64; 64],
-    pub count: usize,
 }
 
-impl Told {
-    pub fn new() -> Told {
-        Told {
-            number: 0,
-            part: 0,
-            lengths: [0; 64],
-            count: 0,
-        }
-    }
+// The lengths of a row, or why there is none.
+pub type Told = Result<Vec<u64>, Refused>;
 
-    pub fn push(&mut self, length: u64) {
-        let at = self.count;
-        if at < 64 {
-            self.lengths[at] = length;
-            self.count = at + 1;
-        }
-    }
-
-    pub fn refuse(&mut self, number: u32, part: u32) {
-        self.number = number;
-        self.part = part;
-    }
-
-    pub fn agrees(&self, other: &Told) -> bool {
-        self.number == other.number
-            && self.part == other.part
-            && self.count == other.count
-            && self.lengths == other.lengths
-    }
+// A refusal that names no part.
+fn whole(number: u32) -> Refused {
+    Refused { number, part: 0 }
 }
 
-fn refused(number: u32, part: u32) -> Told {
-    let mut told = Told::new();
-    told.refuse(number, part);
-    told
-}
-
-// One floating part while millimetres are handed out.
+// A part while a scope is cut: what it asks for, its length so far, and its remainder while it waits for a millimetre more.
 #[derive(Clone, Copy)]
-struct Waiting {
+struct Place {
+    size: Size,
     length: u64,
-    remainder: u64,
-    served: bool,
+    waits: Option<u64>,
 }
 
-// The place of the first part not yet served with the largest remainder.
-fn next_served(waiting: &[Waiting; 64], count: usize) -> Option<usize> {
-    let mut best: Option<usize> = None;
-    let mut most = 0u64;
-    for (i, one) in waiting.iter().enumerate() {
-        if i < count && !one.served && (best.is_none() || one.remainder > most) {
-            best = Some(i);
-            most = one.remainder;
-        }
-    }
-    best
-}
-
-// Hands out what is left, one millimetre to a part; false where millimetres stay.
-fn hand_out(waiting: &mut [Waiting; 64], count: usize, left: u64) -> bool {
-    for given in 0..65u64 {
-        if given >= left {
-            return true;
-        }
-        let Some(i) = next_served(waiting, count) else {
-            return false;
+impl Place {
+    fn new(size: Size) -> Place {
+        let length = match size {
+            Size::Fix(length) => length.0 as u64,
+            Size::Float(_) => 0,
         };
-        if i < 64 {
-            waiting[i].length = waiting[i].length.saturating_add(1);
-            waiting[i].served = true;
+        Place {
+            size,
+            length,
+            waits: None,
         }
     }
-    false
-}
 
-fn fixed(size: Size) -> u64 {
-    match size {
-        Size::Fix(length) => length.0 as u64,
-        Size::Float(_) => 0,
-    }
-}
-
-fn weight(size: Size) -> u64 {
-    match size {
-        Size::Fix(_) => 0,
-        Size::Float(weight) => weight.0 as u64,
-    }
-}
-
-// The lengths in the order of the parts; 33 at the first floating part without a millimetre.
-fn in_order(sizes: &[Size], waiting: &[Waiting; 64]) -> Told {
-    let mut told = Told::new();
-    let mut floats = 0usize;
-    let mut part = 0u32;
-    for size in sizes {
-        part = part.saturating_add(1);
-        match *size {
-            Size::Fix(length) => told.push(length.0 as u64),
-            Size::Float(_) => {
-                let length = waiting.get(floats).copied();
-                floats = floats.saturating_add(1);
-                match length {
-                    Some(one) if one.length > 0 => told.push(one.length),
-                    _ => return refused(33, part),
-                }
-            }
+    fn weight(&self) -> u64 {
+        match self.size {
+            Size::Fix(_) => 0,
+            Size::Float(weight) => weight.0 as u64,
         }
     }
-    told
 }
 
-pub fn second_split(length: u64, sizes: &[Size]) -> Told {
-    let mut taken = 0u64;
-    let mut weights = 0u64;
-    for size in sizes {
-        taken = taken.saturating_add(fixed(*size));
-        weights = weights.saturating_add(weight(*size));
-    }
-    if taken > length {
-        return refused(31, 0);
-    }
-    let rest = length - taken;
-    if weights == 0 && rest > 0 {
-        return refused(32, 0);
-    }
-    share(rest, weights, sizes)
+// The first part that waits with the largest remainder.
+fn next_served(places: &mut [Place]) -> Option<&mut Place> {
+    places
+        .iter_mut()
+        .enumerate()
+        .filter(|(_, place)| place.waits.is_some())
+        .max_by_key(|(i, place)| (place.waits, Reverse(*i)))
+        .map(|(_, place)| place)
 }
 
-fn share(rest: u64, weights: u64, sizes: &[Size]) -> Told {
-    let mut waiting = [Waiting {
-        length: 0,
-        remainder: 0,
-        served: false,
-    }; 64];
-    let mut count = 0usize;
+// Hands out what is left, one millimetre to a part.
+fn hand_out(places: &mut [Place], left: u64) -> Result<(), Refused> {
+    for _ in 0..left {
+        let place = next_served(places).ok_or(whole(36))?;
+        place.length = place.length.saturating_add(1);
+        place.waits = None;
+    }
+    Ok(())
+}
+
+// Gives each floating part its whole share, and one millimetre more as long as some are left.
+fn share(places: &mut [Place], rest: u64, weights: u64) -> Result<(), Refused> {
     let mut left = rest;
-    for size in sizes {
-        let weight = weight(*size);
-        if weight > 0 && weights > 0 && count < 64 {
-            let product = rest.saturating_mul(weight);
-            let length = product / weights;
-            waiting[count] = Waiting {
-                length,
-                remainder: product % weights,
-                served: false,
-            };
-            count += 1;
-            left = left.saturating_sub(length);
+    for place in places.iter_mut() {
+        if place.weight() > 0 && weights > 0 {
+            let product = rest.saturating_mul(place.weight());
+            place.length = product / weights;
+            place.waits = Some(product % weights);
+            left = left.saturating_sub(place.length);
         }
     }
-    if !hand_out(&mut waiting, count, left) {
-        return refused(36, 0);
+    hand_out(places, left)
+}
+
+fn cut(places: &mut [Place], length: u64) -> Result<(), Refused> {
+    let taken = places
+        .iter()
+        .fold(0u64, |sum, place| sum.saturating_add(place.length));
+    let weights = places
+        .iter()
+        .fold(0u64, |sum, place| sum.saturating_add(place.weight()));
+    let rest = length.checked_sub(taken).ok_or(whole(31))?;
+    if weights == 0 && rest > 0 {
+        return Err(whole(32));
     }
-    in_order(sizes, &waiting)
+    share(places, rest, weights)?;
+    match (1u32..)
+        .zip(places.iter())
+        .find(|(_, place)| place.length == 0)
+    {
+        Some((part, _)) => Err(Refused { number: 33, part }),
+        None => Ok(()),
+    }
+}
+
+pub fn second_split(alloc: Global, length: u64, sizes: &[Size]) -> Result<Told, AllocError> {
+    let mut places: Vec<Place> = sizes.iter().map(|size| Place::new(*size)).collect(alloc)?;
+    let answer = cut(&mut places, length);
+    let lengths = places.iter().map(|place| place.length).collect(alloc)?;
+    Ok(answer.map(|()| lengths))
 }
 
 // The tile count by trial: the most tiles of which the last is at least half there.
-pub fn second_repeat(length: u64, tile: u64) -> Told {
-    let mut count = 1usize;
-    for n in 2..66usize {
-        // n tiles fit if n - 1/2 of them are no longer than the scope
-        if (2 * n as u64 - 1).saturating_mul(tile) <= length.saturating_mul(2) {
-            count = n;
-        }
-    }
+pub fn second_repeat(alloc: Global, length: u64, tile: u64) -> Result<Told, AllocError> {
+    // n tiles fit if n - 1/2 of them are no longer than the scope
+    let count = (2..66u64)
+        .rev()
+        .find(|n| (2 * *n - 1).saturating_mul(tile) <= length.saturating_mul(2))
+        .unwrap_or(1);
     if count > 64 {
-        return refused(34, 0);
+        return Ok(Err(whole(34)));
     }
-    let sizes = [Size::Float(geometry::units::Weight(1)); 64];
-    second_split(length, &sizes[0..count])
+    let sizes = [Size::Float(Weight(1)); 64];
+    second_split(alloc, length, &sizes[..count as usize])
 }

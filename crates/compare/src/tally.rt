@@ -1,55 +1,55 @@
 // How many answers of each kind were compared, and how many differ.
 use crate::second::Told;
+use std::alloc::{AllocError, Global};
+use std::collections::BTreeMap;
 
+// The numbers of the refusals of a row.
+const NUMBERS: [u32; 5] = [31, 32, 33, 34, 36];
+
+#[derive(Drop)]
 pub struct Tally {
     rows: u64,
-    refused: [u64; 6],
+    // how often each number was answered
+    refused: BTreeMap<u32, u64>,
     differ: u64,
 }
 
-impl Drop for Tally {
-    fn drop(self) {
-        let Tally {
-            rows: _,
-            refused: _,
-            differ: _,
-        } = self;
-    }
-}
-
 impl Tally {
-    pub fn new() -> Tally {
+    pub fn new(alloc: Global) -> Tally {
         Tally {
             rows: 0,
-            refused: [0; 6],
+            refused: BTreeMap::new(alloc),
             differ: 0,
         }
     }
 
-    pub fn count(&mut self, first: &Told, second: &Told) {
-        if !first.agrees(second) {
+    pub fn count(&mut self, first: &Told, second: &Told) -> Result<(), AllocError> {
+        if first != second {
             self.differ = self.differ.saturating_add(1);
         }
-        match first.number {
-            0 => self.rows = self.rows.saturating_add(1),
-            31 => self.refused[0] = self.refused[0].saturating_add(1),
-            32 => self.refused[1] = self.refused[1].saturating_add(1),
-            33 => self.refused[2] = self.refused[2].saturating_add(1),
-            34 => self.refused[3] = self.refused[3].saturating_add(1),
-            36 => self.refused[4] = self.refused[4].saturating_add(1),
-            _ => self.refused[5] = self.refused[5].saturating_add(1),
+        match first {
+            Ok(_) => self.rows = self.rows.saturating_add(1),
+            Err(refused) => {
+                let times = self.refused.entry(refused.number)?.or_insert(0);
+                *times = times.saturating_add(1);
+            }
         }
+        Ok(())
     }
 
     pub fn print(&self, rt: &HostRuntime) -> anyhow::Result<()> {
         let rows = self.rows;
         println!(rt; "rows compared: {rows}")?;
-        let names = ["31", "32", "33", "34", "36", "other"];
-        for (i, name) in names.iter().enumerate() {
-            let name: &str = *name;
-            let n = self.refused[i];
-            println!(rt; "refused with {name}: {n}")?;
+        for number in NUMBERS {
+            let times = self.refused.get(&number).copied().unwrap_or(0);
+            println!(rt; "refused with {number}: {times}")?;
         }
+        let other = self
+            .refused
+            .iter()
+            .filter(|(number, _)| !NUMBERS.contains(*number))
+            .fold(0u64, |sum, (_, times)| sum.saturating_add(*times));
+        println!(rt; "refused with other: {other}")?;
         match self.differ {
             0 => println!(rt; "all agree")?,
             differ => println!(rt; "different: {differ}")?,

@@ -1,7 +1,10 @@
 // The rows of a harbour front of 14,000 mm, as the saw would cut them.
 #![tactic(auto)]
 
-use anyhow::anyhow;
+ghost use Rattle.std.specs.Prelude.{◌≡◌, sum_by};
+ghost use Rattle.rows.specs.Rows.{segments_of};
+
+use anyhow::{Context, Result};
 use geometry::units::{Mm, Weight};
 use rows::parts::Parts;
 use rows::refusal::RowRefusal;
@@ -10,27 +13,37 @@ use rows::row::Row;
 use rows::size::Size;
 use rows::split::split;
 use rows::tile::Tile;
+use std::fmt;
 
-// What a refused row means to the crew.
-fn meaning(refusal: RowRefusal) -> &'static str {
-    match refusal {
-        RowRefusal::FixedTooLong => "the fixed parts are longer than the scope",
-        RowRefusal::NothingFloats => "the fixed parts leave a rest and no part floats",
-        RowRefusal::Vanishes(_) => "a floating part would be too short",
-        RowRefusal::TooManyTiles => "a row has at most 64 tiles",
-        RowRefusal::SpareLeft => "millimetres are left though every floating part has one more",
+// A refused row as the crew reads it.
+#[derive(Clone, Copy)]
+struct Refused(RowRefusal);
+
+impl fmt::Display for Refused {
+    fn fmt<W: fmt::Write>(&self, f: &mut fmt::Formatter<W>) -> fmt::Result {
+        let number = self.0.number();
+        let part = self.0.part();
+        let meaning = match self.0 {
+            RowRefusal::FixedTooLong => "the fixed parts are longer than the scope",
+            RowRefusal::NothingFloats => "the fixed parts leave a rest and no part floats",
+            RowRefusal::Vanishes(_) => "a floating part would be too short",
+            RowRefusal::TooManyTiles => "a row has at most 64 tiles",
+            RowRefusal::SpareLeft => "millimetres are left though every floating part has one more",
+        };
+        write!(f, "refused with {number} at part {part}: {meaning}")
     }
 }
 
-fn sum(row: &Row) -> u64 {
-    let mut sum = 0u64;
-    for segment in row.as_slice() {
-        sum = sum.saturating_add(segment.length.0 as u64);
-    }
-    sum
+fn sum(row: &Row) -> u64
+    ensures { result ≡ sum_by (λ s. s.length.0) (segments_of row.now) }
+{
+    row.as_slice()
+        .iter()
+        .map(|segment| segment.length.0 as u64)
+        .sum()
 }
 
-fn show(rt: &HostRuntime, title: &str, answer: Result<Row, RowRefusal>) -> anyhow::Result<()> {
+fn show(rt: &HostRuntime, title: &str, answer: Result<Row, RowRefusal>) -> Result<()> {
     println!(rt; "{title}")?;
     match answer {
         Ok(row) => {
@@ -42,10 +55,8 @@ fn show(rt: &HostRuntime, title: &str, answer: Result<Row, RowRefusal>) -> anyho
             println!(rt; " = {sum}")?;
         }
         Err(refusal) => {
-            let number = refusal.number();
-            let part = refusal.part();
-            let meaning = meaning(refusal);
-            println!(rt; " refused with {number} at part {part}: {meaning}")?;
+            let refused = Refused(refusal);
+            println!(rt; " {refused}")?;
         }
     }
     Ok(())
@@ -60,18 +71,13 @@ fn float(weight: u32) -> Size {
 }
 
 // The parts of a split; a length or weight out of range is an error of this program.
-fn parts(sizes: &[Size]) -> anyhow::Result<Parts> {
-    match Parts::from_sizes(sizes) {
-        Some(parts) => Ok(parts),
-        None => Err(anyhow!("a part out of range")),
-    }
+fn parts(sizes: &[Size]) -> Result<Parts> {
+    Parts::from_sizes(sizes).context("a part out of range")
 }
 
-fn run(rt: &HostRuntime) -> anyhow::Result<()> {
+fn run(rt: &HostRuntime) -> Result<()> {
     let front = parts(&[fix(200), float(1), float(1), float(1), fix(200)])?;
-    let Some(window) = Tile::new(Mm(900)) else {
-        return Err(anyhow!("a tile out of range"));
-    };
+    let window = Tile::new(Mm(900)).context("a tile out of range")?;
     let posts = parts(&[fix(200), float(1), fix(200)])?;
     show(
         rt,
@@ -95,6 +101,6 @@ fn run(rt: &HostRuntime) -> anyhow::Result<()> {
     )
 }
 
-fn main(rt: HostRuntime) -> anyhow::Result<()> {
+fn main(rt: HostRuntime) -> Result<()> {
     run(&rt)
 }
