@@ -1,13 +1,14 @@
--- Sums over what a stack holds.
-use Rattle.std.proofs.Common.{◌≡◌, ℕ, ◌+◌, ◌<◌, List, [], ◌∷◌, reverse, length, get_or, take, refl, ap, ◌∙◌, arith}
-use Rattle.std.proofs.lemmas.List.{reverse-append, take_more}
-use Rattle.geometry.specs.Sums.{sum_of}
-use Rattle.derivation.proofs.Summing.{sum_append}
+-- The volume of what a stack holds.
+use Rattle.std.proofs.Common.{◌≡◌, ℕ, ◌+◌, ◌-◌, ◌^◌, ◌≤◌, min, List, [], ◌∷◌, arith}
+use Rattle.std.specs.List.{FoldsTo}
+use Rattle.geometry.specs.declared.scope.Scope.{Scope}
+use Rattle.geometry.specs.Boxes.{volume_of}
+use Rattle.derivation.specs.Laws.{scope_volume}
 
--- a sum does not look at the order
-pub sum_reverse : {X : Type 0} (f : X → ℕ) (xs : List X) → sum_of f (reverse xs) ≡ sum_of f xs
-sum_reverse f [] = refl
-sum_reverse f (x ∷ xs) = ap (sum_of f) (reverse-append (x ∷ []) xs) ∙ sum_append f (reverse xs) (x ∷ []) ∙ omega (arith, sum_reverse f xs)
-
-pub sum_more : {X : Type 0} (f : X → ℕ) (xs : List X) (i : ℕ) (x : X) → i < length xs → sum_of f (take (i + 1) xs) ≡ sum_of f (take i xs) + f (get_or xs i x)
-sum_more f xs i x h = ap (sum_of f) (take_more xs i x h) ∙ sum_append f (take i xs) (get_or xs i x ∷ []) ∙ omega arith
+-- a fold that adds each volume, and stays at the greatest number
+pub volumes_fold : (R : ℕ → Scope → ℕ → Type 0) (ws : List Scope) (a b : ℕ) → a ≤ 2 ^ 64 - 1 → FoldsTo R a ws b
+    → ((a : ℕ) (w : Scope) (b : ℕ) → R a w b → b ≡ min (a + volume_of w.cuboid) (2 ^ 64 - 1)) → b ≡ min (a + scope_volume ws) (2 ^ 64 - 1)
+volumes_fold R [] a b h p f = omega (arith, p)
+volumes_fold R (w ∷ ws) a b h (j, r, p) f =
+    let e = f a w j r in
+    omega (arith, e, volumes_fold R ws j b (omega (arith, e)) p f)

@@ -1,5 +1,6 @@
 -- What waits in a build and what it counts.
-use Rattle.std.specs.Prelude.{◌≡◌, ℕ, ◌-◌, ◌^◌, min, cond, List, [], length, take, nat_le}
+use Rattle.std.specs.Prelude.{◌≡◌, ℕ, ◌-◌, ◌^◌, min, cond, List, [], length, nat_le}
+use Rattle.bounded.specs.Listed.{listed}
 use Rattle.geometry.specs.declared.scope.Scope.{Scope}
 use Rattle.stack.specs.Held.{held}
 use Rattle.book.specs.declared.line.Line.{Line}
@@ -11,7 +12,7 @@ use Rattle.build.specs.declared.build.Waiting.{Waiting}
 
 -- the joined lots, and the lines of their book
 abbrev pub lots_of : JoinedLots → List Scope
-lots_of j = take j.count j.lots
+lots_of j = listed j.lots
 
 abbrev pub joined_lines : JoinedLots → List Line
 joined_lines j = lines_of j.table

@@ -3,6 +3,8 @@
 use book::table::RuleTable;
 use geometry::scope::Scope;
 
+// Stays: the slots and the mark lie here, and not a stack, since a struct that holds a stack cannot be taken by value, as
+// close takes a build (there is no proof rule for it).
 pub struct Build<'s> {
     pub(crate) slots: &'s mut [Scope],
     pub(crate) mark: usize,

@@ -7,22 +7,25 @@ ghost use Rattle.build.specs.Builds.{waiting_in, space_of, lines_in, steps_of, T
 use crate::build::{Build, Closed, Slip, Waiting};
 use geometry::scope::Scope;
 use sinks::sink::Sink;
-use steps::running::run_slots;
+use stack::Stack;
+use steps::running::run;
 use steps::stop::Ending;
 
-// The volume of the scopes on the slots of a stack with that mark.
+// How many scopes wait on the slots of a stack with that mark, and their volume.
 fn volume_over(slots: &mut [Scope], mark: usize) -> Waiting
     ensures tells { Tells (held slots.old mark) result }
     ensures same { slots.new ≡ slots.old }
 {
-    let count = mark.min(slots.len());
-    let mut volume = 0u64;
-    for i in 0..count {
-        volume = volume.saturating_add(slots[i].cuboid.volume());
-    }
+    let mut stack = Stack::resume(slots, mark);
+    let volume = stack.fold(0u64, |sum: u64, scope: Scope| {
+        sum.saturating_add(scope.cuboid.volume())
+    });
+    let count = stack.len();
     Waiting { count, volume }
 }
 
+// Stays: that a call leaves the size of the stack and the book as they were is said of each call by name, here and in
+// the calls as data; it is no fact of one build that a struct could keep.
 impl<'s> Build<'s> {
     // Makes steps into the sink, at most as many as the budget: how many were made, and how the run ended.
     pub fn run<S: Sink>(&mut self, sink: &mut S, budget: u32) -> (u32, Ending)
@@ -31,15 +34,10 @@ impl<'s> Build<'s> {
         ensures lines { lines_in self.new ≡ lines_in self.old }
         ensures steps { steps_of self.new ≡ min (steps_of self.old + result.0) (2 ^ 64 - 1) }
     {
-        let Build {
-            slots,
-            mark,
-            steps,
-            table,
-        } = self;
-        let (n, ending, after) = run_slots(table, slots, *mark, sink, budget);
-        *mark = after;
-        *steps = steps.saturating_add(n as u64);
+        let mut stack = Stack::resume(self.slots, self.mark);
+        let (n, ending) = run(&self.table, &mut stack, sink, budget);
+        self.mark = stack.mark();
+        self.steps = self.steps.saturating_add(n as u64);
         (n, ending)
     }
 
@@ -51,8 +49,7 @@ impl<'s> Build<'s> {
         ensures lines { lines_in self.new ≡ lines_in self.old }
         ensures steps { steps_of self.new ≡ steps_of self.old }
     {
-        let Build { slots, mark, .. } = self;
-        volume_over(slots, *mark)
+        volume_over(self.slots, self.mark)
     }
 
     // Takes the build and its slip back: what waited, and all steps counted.

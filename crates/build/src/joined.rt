@@ -1,14 +1,10 @@
-// Lots joined to a checked book: the first `count` of `lots`, each with the rule that it begins with.
-ghost use Rattle.std.specs.Prelude.{◌≤◌, length};
-
+// Lots joined to a checked book, each with the rule that it begins with.
 use book::table::RuleTable;
+use bounded::inline::InlineVec;
 use geometry::scope::Scope;
 
 #[derive(Drop)]
 pub struct JoinedLots {
     pub(crate) table: RuleTable,
-    pub(crate) lots: [Scope; 16],
-    pub(crate) count: usize,
-    ghost few: { count ≤ 16 },
-    ghost full: { count ≤ length lots },
+    pub(crate) lots: InlineVec<Scope, 16>,
 }

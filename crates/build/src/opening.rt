@@ -17,20 +17,19 @@ impl JoinedLots {
     pub fn fit(&self, entries: usize) -> bool
         ensures { result ≡ nat_le (length (lots_of self.now)) entries }
     {
-        self.count <= entries
+        self.lots.len() <= entries
     }
 }
 
+// The lots on an empty stack, the first on top.
 fn put_lots(stack: &mut Stack<'_, Scope>, lots: &[Scope])
     requires none { entries stack.old ≡ [] }
     requires room { length lots.now ≤ capacity stack.old }
     ensures wait { entries stack.new ≡ lots.now }
     ensures slice { SameSlice stack.old stack.new }
 {
-    let mut i = lots.len();
-    while i > 0 {
-        i -= 1;
-        let _ = stack.push(lots[i]);
+    for lot in lots.iter().rev() {
+        let _ = stack.push(*lot);
     }
 }
 
@@ -41,8 +40,7 @@ fn fill(slots: &mut [Scope], lots: &[Scope]) -> usize
 {
     let mut stack = Stack::new(slots);
     put_lots(&mut stack, lots);
-    let mark = stack.mark();
-    mark
+    stack.mark()
 }
 
 // At first the lots wait, the first on top; where they do not fit, nothing waits.
@@ -53,9 +51,9 @@ pub fn open<'s>(joined: JoinedLots, slots: &'s mut [Scope]) -> Opened<'s>
     ensures steps { steps_of result.build ≡ 0 }
 {
     let fits = joined.fit(slots.len());
-    let JoinedLots { table, lots, count } = joined;
+    let JoinedLots { table, lots } = joined;
     let mark = if fits {
-        fill(slots, &lots[0..count])
+        fill(slots, lots.as_slice())
     } else {
         0
     };
@@ -66,6 +64,6 @@ pub fn open<'s>(joined: JoinedLots, slots: &'s mut [Scope]) -> Opened<'s>
             steps: 0,
             table,
         },
-        slip: Slip { lots: count },
+        slip: Slip { lots: lots.len() },
     }
 }

@@ -15,7 +15,6 @@ use Rattle.rows.specs.declared.row.Row.{Row}
 use Rattle.rows.specs.declared.refusal.RowRefusal.{RowRefusal}
 use Rattle.rows.specs.Rows.{sizes, parts_of, split_row, repeat_row, told, told_of, segments_of}
 use Rattle.rows.specs.Laws.{Shared, Lawful}
-use Rattle.rows.proofs.Fills.{parts_few}
 use Rattle.book.specs.declared.body.Body.TheVariants.{Use, Repeat, Split}
 use Rattle.book.specs.declared.line.Line.{Line}
 use Rattle.book.specs.Checks.{part_rules}
@@ -66,7 +65,7 @@ split_filling L p rs (Err x) pos n k l = tt
 split_filling L p rs (Ok r) pos n k l =
     let c = split_count L p r l in
     lawful_filling L (sizes (parts_of p)) r (take (length (segments_of r)) rs) pos l
-    (omega (arith, length-take (length (segments_of r)) rs, c, parts_few p))
+    (omega (arith, length-take (length (segments_of r)) rs, c, listed_few p.parts))
     (subst (λ (m : ℕ). Known (take m rs)) (sym c) k)
 
 pub split_rules : (L : ℕ) (p : parted.Parts) (rs : List ℕ) (row : Result Row RowRefusal) → IfOk row (λ r. Lawful L (sizes (parts_of p)) (told r))

@@ -1,4 +1,5 @@
-use Rattle.std.proofs.Common.{false, List, [], ◌∷◌, length, subst, arith, length-take}
+use Rattle.std.proofs.Common.{false, List, [], ◌∷◌, length, subst}
+use Rattle.bounded.proofs.Listed.{listed_few}
 use Rattle.book.specs.declared.line.Line.{Line}
 use Rattle.book.proofs.Checkings.{lines_checked}
 use Rattle.build.specs.Builds.{waiting_in, space_of, lines_in, steps_of, lots_of, passed}
@@ -17,7 +18,7 @@ returns g c = λ empty.
     let start = c.args.sink.now in
     let r = c.close-closed.result in
     let ok = lines_checked (lines_in first) first.table.full first.table.checked in
-    let few = passed_few (length c.args.slots.now) (lots_of joined) (omega (arith, length-take joined.count joined.lots, joined.few)) in
+    let few = passed_few (length c.args.slots.now) (lots_of joined) (listed_few joined.lots) in
     let at_first = opened_at g.S.Sink.edge g.S.Sink.parts g.S.Sink.took g.S.Sink.kept g.S.Sink.text (lines_in first) (space_of first) lots (waiting_in first) (steps_of first) start
     c.open-build.ensures.waits c.open-build.ensures.steps in
     let so = c.carry_all.ensures.more lots start [] at_first in

@@ -1,5 +1,6 @@
-use Rattle.std.proofs.Common.{ℕ, List, [], ◌∷◌, length, sym, subst, arith, length-take}
+use Rattle.std.proofs.Common.{ℕ, List, [], ◌∷◌, length, sym, subst}
 use Rattle.geometry.specs.declared.scope.Scope.{Scope}
+use Rattle.bounded.proofs.Listed.{listed_few}
 use Rattle.book.specs.declared.line.Line.{Line}
 use Rattle.book.proofs.Checkings.{lines_checked}
 use Rattle.steps.specs.Acting.{Ran}
@@ -38,7 +39,7 @@ returns g c =
       told = c.close-closed.ensures.waited;
       laws = λ empty.
           let ok = lines_checked (lines_in first) first.table.full first.table.checked in
-          let few = passed_few cap (lots_of joined) (omega (arith, length-take joined.count joined.lots, joined.few)) in
+          let few = passed_few cap (lots_of joined) (listed_few joined.lots) in
           let at_first = opened_at edge parts took kept text (lines_in first) (space_of first) lots (waiting_in first) (steps_of first) x opens.waits opens.steps in
           let after = run budget n e at_first runs c.run-steps.ensures.steps in
           let shut = close r after c.close-closed.ensures.waited c.close-closed.ensures.steps in
