@@ -1,16 +1,7 @@
--- Searching names, and cutting out those that a line uses.
-use Rattle.std.proofs.Common.{◌≡◌, ℕ, ◌+◌, ◌-◌, ◌<◌, min, true, false, List, length, get_or, take, drop, Some, sym, ap, ◌∙◌, ⊎_elim, arith}
-use Rattle.std.specs.Str.{bytes_eq}
-use Rattle.std.proofs.lemmas.List.{at_drop_more, take_rest, take_all, drop_all}
-use Rattle.std.proofs.lemmas.Bool.{cond-true, cond-false, cases_lt}
-use Rattle.forms.specs.Told.{Name, bytes_of}
-use Rattle.book_check.specs.Faults.{first_from}
-
-pub find_hit : (xs : List Name) (w : List ℕ) (i : ℕ) (p : Name) → i < length xs → p ≡ get_or xs i p → true ≡ bytes_eq (bytes_of p) w → first_from i w (drop i xs) ≡ Some i
-find_hit xs w i p h q e = at_drop_more (first_from i w) xs i p h ∙ cond-true _ _ _ (ap (λ (x : Name). bytes_eq (bytes_of x) w) (sym q) ∙ sym e)
-
-pub find_miss : (xs : List Name) (w : List ℕ) (i : ℕ) (p : Name) → i < length xs → p ≡ get_or xs i p → false ≡ bytes_eq (bytes_of p) w → first_from i w (drop i xs) ≡ first_from (i + 1) w (drop (i + 1) xs)
-find_miss xs w i p h q e = at_drop_more (first_from i w) xs i p h ∙ cond-false _ _ _ (ap (λ (x : Name). bytes_eq (bytes_of x) w) (sym q) ∙ sym e)
+-- Cutting out the names that a line uses.
+use Rattle.std.proofs.Common.{◌≡◌, ℕ, ◌-◌, min, List, length, take, drop, sym, ap, ◌∙◌, ⊎_elim, arith}
+use Rattle.std.proofs.lemmas.List.{take_rest, take_all, drop_all}
+use Rattle.std.proofs.lemmas.Bool.{cases_lt}
 
 take_min : {X : Type 0} (n : ℕ) (xs : List X) → take (min n (length xs)) xs ≡ take n xs
 take_min n xs =

@@ -1,13 +1,13 @@
 -- What a checked book holds.
+use Rattle.rules.specs.declared.rule_book.Book.{Book}
 use Rattle.std.specs.Prelude.{List}
 use Rattle.book.specs.Lines.{lines_of}
 use Rattle.book.specs.declared.line.Line.{Line}
-use Rattle.rules.specs.Pages.{Pages, pages_of}
 use Rattle.book_check.specs.declared.checked.CheckedBook.{CheckedBook}
 
 -- its pages
-abbrev pub pages_in : CheckedBook → Pages
-pages_in c = pages_of c.book
+abbrev pub pages_in : CheckedBook → Book
+pages_in c = c.book
 
 -- the lines of its table
 abbrev pub lines_in : CheckedBook → List Line

@@ -1,6 +1,5 @@
 // A book that was checked, with the table of its lines; made by `check` only.
 ghost use Rattle.std.specs.Prelude.{◌≡◌, true};
-ghost use Rattle.rules.specs.Pages.{pages_of};
 ghost use Rattle.book.specs.Lines.{lines_of};
 ghost use Rattle.book_check.specs.Resolved.{accepted, Resolved};
 
@@ -11,6 +10,6 @@ use rules::rule_book::Book;
 pub struct CheckedBook<'a> {
     pub(crate) book: Book<'a>,
     pub(crate) table: RuleTable,
-    ghost sound: { accepted (pages_of book) ≡ true },
-    ghost means: { ∥ Resolved (pages_of book) (lines_of table) ∥₁ },
+    ghost sound: { accepted book ≡ true },
+    ghost means: { ∥ Resolved book (lines_of table) ∥₁ },
 }

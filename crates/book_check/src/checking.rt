@@ -1,15 +1,19 @@
 // The check of a book.
 ghost use Rattle.std.specs.Prelude.{◌≡◌, if◌then◌else◌};
 ghost use Rattle.book.specs.Checks.{every};
-ghost use Rattle.rules.specs.Pages.{pages_of, no_pages};
+ghost use Rattle.rules.specs.Pages.{no_pages};
 ghost use Rattle.book_check.specs.Checked.{pages_in, lines_in};
-ghost use Rattle.book_check.specs.Resolved.{complete, fits as fitting, accepted, Resolved};
+ghost use Rattle.book_check.specs.Resolved.{accepted, Resolved};
+ghost use Rattle.rules.specs.Holds.{complete, fits as fitting};
 
 use crate::checked::CheckedBook;
 use crate::judging::judge_book;
 use crate::names::{used_by, uses_of};
 use crate::resolving::table_of;
+use by_lines::files::Grow;
 use forms::rule::RuleLine;
+use geometry::limits::MOST_LINES;
+use rules::judging::MOST_MATERIALS;
 use rules::rule_book::Book;
 use text::placed::Placed;
 
@@ -24,34 +28,29 @@ fn is_complete(uses: &[Placed<&[u8]>], line: &RuleLine) -> bool
 fn all_complete(uses: &[Placed<&[u8]>], lines: &[RuleLine]) -> bool
     ensures { result ≡ every (complete uses.now) lines.now }
 {
-    for line in lines {
-        if !is_complete(uses, line) {
-            return false;
-        }
-    }
-    true
+    lines.iter().all(|line| is_complete(uses, line))
 }
 
 // Whether a book is as reading leaves it.
 fn fits(book: &Book) -> bool
-    ensures { result ≡ fitting (pages_of book.now) }
+    ensures { result ≡ fitting book.now }
 {
     book.names().len() == book.lines().len()
-        && book.lines().len() <= 64
-        && book.materials().len() <= 15
+        && book.lines().len() <= MOST_LINES as usize
+        && book.materials().len() <= MOST_MATERIALS
         && all_complete(book.uses(), book.lines())
 }
 
 // Whether a book fits and has no fault.
 fn is_accepted(book: &Book) -> bool
-    ensures { result ≡ accepted (pages_of book.now) }
+    ensures { result ≡ accepted book.now }
 {
     fits(book) && judge_book(book).is_none()
 }
 
 // Checks a book; one that is not accepted comes out empty.
 pub fn check<'a>(book: Book<'a>) -> CheckedBook<'a>
-    ensures pages { pages_in result ≡ (if accepted (pages_of book.entry) then pages_of book.entry else no_pages) }
+    ensures pages { pages_in result ≡ (if accepted book.entry then book.entry else no_pages) }
     ensures means { Resolved (pages_in result) (lines_in result) }
 {
     let mut book = book;

@@ -1,6 +1,5 @@
 // The judgement of a book: in each line first the guards of a rule's last line, then the names from left to right.
 ghost use Rattle.std.specs.Prelude.{◌≡◌, ◌+◌, ◌<◌, length, drop, None};
-ghost use Rattle.rules.specs.Pages.{pages_of};
 ghost use Rattle.book_check.specs.Faults.{meant_fault, name_fault, used_fault, ends, guard_fault, line_fault, book_fault, AllInOrder, FirstFault};
 
 use crate::kind::Kind;
@@ -9,7 +8,6 @@ use forms::rule::RuleLine;
 use judge::faults::Fault;
 use rules::rule_book::Book;
 use text::placed::Placed;
-use text::words::same;
 
 // What is wrong with a name that line i uses, by its kind and its meaning.
 fn meant_fault(
@@ -20,37 +18,27 @@ fn meant_fault(
 ) -> Option<Placed<Fault>>
     ensures { result ≡ meant_fault i kind name.now meant }
 {
-    match meant {
-        None => Some(name.with(Fault::UnknownName)),
-        Some(j) => match kind {
-            Kind::Material => None,
-            Kind::Below => {
-                if i < j {
-                    None
-                } else {
-                    Some(name.with(Fault::NotFurtherDown))
-                }
-            }
-            Kind::Anywhere => None,
-        },
+    match (kind, meant) {
+        (_, None) => Some(name.with(Fault::UnknownName)),
+        (Kind::Below, Some(j)) if i >= j => Some(name.with(Fault::NotFurtherDown)),
+        _ => None,
     }
 }
 
 // What is wrong with a name that line i uses.
 fn name_fault(book: &Book, i: usize, kind: Kind, name: &Placed<&[u8]>) -> Option<Placed<Fault>>
-    ensures { result ≡ name_fault (pages_of book.now) i kind name.now }
+    ensures { result ≡ name_fault book.now i kind name.now }
 {
     meant_fault(i, kind, name, meaning(book, kind, name.value))
 }
 
 // The first fault of the names that line i uses.
 fn used_fault(book: &Book, i: usize, kind: Kind, used: &[Placed<&[u8]>]) -> Option<Placed<Fault>>
-    ensures { result ≡ used_fault (pages_of book.now) i kind used.now }
+    ensures { result ≡ used_fault book.now i kind used.now }
 {
     for name in used {
-        match name_fault(book, i, kind, name) {
-            Some(fault) => return Some(fault),
-            None => {}
+        if let Some(fault) = name_fault(book, i, kind, name) {
+            return Some(fault);
         }
     }
     None
@@ -60,10 +48,7 @@ fn used_fault(book: &Book, i: usize, kind: Kind, used: &[Placed<&[u8]>]) -> Opti
 fn ends_at(names: &[Placed<&[u8]>], k: usize, word: &[u8]) -> bool
     ensures { result ≡ ends word.now (drop k names.now) }
 {
-    if k >= names.len() {
-        return true;
-    }
-    !same(names[k].value, word)
+    names.get(k).is_none_or(|name| name.value != word)
 }
 
 // A guard in the last line of a rule.
@@ -76,7 +61,7 @@ fn guard_fault(
     requires { i < length names.now }
     ensures { result ≡ guard_fault name.now (drop (i + 1) names.now) line.now }
 {
-    if line.guarded > 0 && ends_at(names, i + 1, name.value) {
+    if line.guards.len() > 0 && ends_at(names, i + 1, name.value) {
         Some(name.with(Fault::LastLineGuarded))
     } else {
         None
@@ -85,25 +70,24 @@ fn guard_fault(
 
 // The first fault of line i.
 fn line_fault(book: &Book, i: usize, name: &Placed<&[u8]>, line: &RuleLine) -> Option<Placed<Fault>>
-    requires { i < length (pages_of book.now).names }
-    ensures { result ≡ line_fault (pages_of book.now) i name.now (drop (i + 1) (pages_of book.now).names) line.now }
+    requires { i < length book.now.names }
+    ensures { result ≡ line_fault book.now i name.now (drop (i + 1) book.now.names) line.now }
 {
-    match guard_fault(book.names(), i, name, line) {
-        Some(fault) => Some(fault),
-        None => used_fault(book, i, kind_of(&line.body), used_by(book.uses(), line)),
+    if let Some(fault) = guard_fault(book.names(), i, name, line) {
+        return Some(fault);
     }
+    used_fault(book, i, kind_of(&line.body), used_by(book.uses(), line))
 }
 
 // The first fault of a book, line by line.
 fn first_fault(book: &Book) -> Option<Placed<Fault>>
-    ensures { result ≡ book_fault (pages_of book.now) }
+    ensures { result ≡ book_fault book.now }
 {
     let names = book.names();
     let lines = book.lines();
     for i in 0..names.len().min(lines.len()) {
-        match line_fault(book, i, &names[i], &lines[i]) {
-            Some(fault) => return Some(fault),
-            None => {}
+        if let Some(fault) = line_fault(book, i, &names[i], &lines[i]) {
+            return Some(fault);
         }
     }
     None
@@ -111,9 +95,9 @@ fn first_fault(book: &Book) -> Option<Placed<Fault>>
 
 // The first fault of a book, or nothing just if all its lines are in order; the book stays as it is.
 pub fn judge_book(book: &Book) -> Option<Placed<Fault>>
-    ensures value { result ≡ book_fault (pages_of book.now) }
-    ensures first { FirstFault (pages_of book.now) result }
-    ensures accepts { AllInOrder (pages_of book.now) → result ≡ None }
+    ensures value { result ≡ book_fault book.now }
+    ensures first { FirstFault book.now result }
+    ensures accepts { AllInOrder book.now → result ≡ None }
 {
     first_fault(book)
 }

@@ -2,7 +2,6 @@
 ghost use Rattle.std.specs.Prelude.{◌≡◌};
 ghost use Rattle.geometry.specs.Limits.{most_lines};
 ghost use Rattle.book.specs.Lines.{lines_of};
-ghost use Rattle.rules.specs.Pages.{pages_of};
 ghost use Rattle.book_check.specs.Checked.{pages_in, lines_in};
 ghost use Rattle.book_check.specs.Faults.{first_named, Under};
 ghost use Rattle.book_check.specs.Resolved.{Resolved, StaysInRule};
@@ -15,7 +14,7 @@ use rules::rule_book::Book;
 impl<'a> CheckedBook<'a> {
     // The book as it was read, or an empty one.
     pub fn book(&self) -> &Book<'a>
-        ensures { pages_of result.now ≡ pages_in self.now }
+        ensures { result.now ≡ pages_in self.now }
     {
         &self.book
     }
@@ -25,10 +24,8 @@ impl<'a> CheckedBook<'a> {
         ensures value { result ≡ first_named name.now (pages_in self.now).names }
         ensures known { Under most_lines result }
     {
-        match find(self.book.names(), name) {
-            Some(i) => Some(i as u8),
-            None => None,
-        }
+        let i = find(self.book.names(), name)?;
+        Some(i as u8)
     }
 
     // The table of its lines.

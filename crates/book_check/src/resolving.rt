@@ -1,9 +1,9 @@
 // The lines of a book with numbers for names.
 ghost use Rattle.std.specs.Prelude.{◌≡◌, ◌≤◌, min, true, map, length, take, Some, None};
 ghost use Rattle.book.specs.Lines.{lines_of};
+ghost use Rattle.rules.specs.Holds.{complete};
 ghost use Rattle.forms.specs.Told.{uses_of};
-ghost use Rattle.rules.specs.Pages.{pages_of};
-ghost use Rattle.book_check.specs.Resolved.{accepted, complete, meanings, Meant, target_of, shape_of, targets_of, last_number, LineOf, Filler, Resolved};
+ghost use Rattle.book_check.specs.Resolved.{accepted, meanings, Meant, target_of, shape_of, targets_of, last_number, LineOf, Filler, Resolved};
 
 use crate::kind::Kind;
 use crate::names::{kind_of, meaning, used_by};
@@ -11,6 +11,7 @@ use book::body::Body;
 use book::guard::Guard;
 use book::line::Line;
 use book::table::RuleTable;
+use bounded::inline::InlineVec;
 use forms::rule::RuleLine;
 use forms::shape::Shape;
 use geometry::axis::Axis;
@@ -22,16 +23,13 @@ use text::placed::Placed;
 fn target_of(meant: Option<usize>) -> u8
     ensures { result ≡ target_of meant }
 {
-    match meant {
-        Some(n) => n.min(255) as u8,
-        None => 0,
-    }
+    meant.map_or(0, |n| u8::try_from(n).unwrap_or(u8::MAX))
 }
 
 // The numbers for used names.
 fn targets(book: &Book, kind: Kind, used: &[Placed<&[u8]>]) -> [u8; 16]
     requires { length used.now ≤ 16 }
-    ensures { take (length used.now) result ≡ map target_of (meanings (pages_of book.now) kind used.now) }
+    ensures { take (length used.now) result ≡ map target_of (meanings book.now kind used.now) }
 {
     let mut numbers = [0; 16];
     for i in 0..used.len() {
@@ -57,7 +55,7 @@ fn body_of(shape: &Shape, numbers: [u8; 16]) -> Body
 fn line_number(line: usize) -> u32
     ensures { result ≡ min line last_number }
 {
-    line.min(4_294_967_295) as u32
+    u32::try_from(line).unwrap_or(u32::MAX)
 }
 
 // A line that fills a place of a table.
@@ -70,8 +68,7 @@ fn filler() -> Line
         high: Mm(0),
     };
     Line {
-        guards: [guard; 3],
-        guarded: 0,
+        guards: InlineVec::new(guard),
         body: Body::Make(0),
         number: 0,
     }
@@ -79,15 +76,14 @@ fn filler() -> Line
 
 // A rule line with the number that each of its names stands for.
 fn line_of(book: &Book, name: &Placed<&[u8]>, line: &RuleLine) -> Line
-    requires whole { complete (pages_of book.now).uses line.now ≡ true }
-    requires meant { Meant (pages_of book.now) line.now }
-    ensures { LineOf (pages_of book.now) name.now line.now result }
+    requires whole { complete book.now.uses line.now ≡ true }
+    requires meant { Meant book.now line.now }
+    ensures { LineOf book.now name.now line.now result }
 {
     let used = used_by(book.uses(), line);
     let numbers = targets(book, kind_of(&line.body), used);
     Line {
         guards: line.guards,
-        guarded: line.guarded,
         body: body_of(&line.body, numbers),
         number: line_number(name.line),
     }
@@ -95,8 +91,8 @@ fn line_of(book: &Book, name: &Placed<&[u8]>, line: &RuleLine) -> Line
 
 // The book's lines, with fillers up to the 64th.
 fn resolve(book: &Book) -> [Line; 64]
-    requires { accepted (pages_of book.now) ≡ true }
-    ensures { Resolved (pages_of book.now) result }
+    requires { accepted book.now ≡ true }
+    ensures { Resolved book.now result }
 {
     let names = book.names();
     let rules = book.lines();
@@ -109,8 +105,8 @@ fn resolve(book: &Book) -> [Line; 64]
 
 // The table of an accepted book.
 pub(crate) fn table_of(book: &Book) -> RuleTable
-    requires { accepted (pages_of book.now) ≡ true }
-    ensures { Resolved (pages_of book.now) (lines_of result) }
+    requires { accepted book.now ≡ true }
+    ensures { Resolved book.now (lines_of result) }
 {
     RuleTable::new(resolve(book)).unwrap()
 }

@@ -1,7 +1,7 @@
 // A rule file read into a book.
 #![tactic(auto)]
 
-mod judging;
+pub mod judging;
 mod passes;
 pub mod questions;
 mod reading;

@@ -1,7 +1,6 @@
 use Rattle.std.proofs.Common.{◌≡◌, drop}
-use Rattle.rules.specs.Pages.{pages_of}
 use Rattle.book_check.specs.Faults.{lines_fault, book_fault}
 use Rattle.book_check.proofs.judging.first_fault.Given as goal
 
 abbrev pub invariant-loop-i : goal.invariant-loop-i
-invariant-loop-i l = lines_fault (pages_of l.book) l.i (drop l.i l.names) (drop l.i l.lines) ≡ book_fault (pages_of l.book)
+invariant-loop-i l = lines_fault l.book l.i (drop l.i l.names) (drop l.i l.lines) ≡ book_fault l.book

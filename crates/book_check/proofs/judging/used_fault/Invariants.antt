@@ -1,7 +1,6 @@
 use Rattle.std.proofs.Common.{◌≡◌, drop}
-use Rattle.rules.specs.Pages.{pages_of}
 use Rattle.book_check.specs.Faults.{used_fault}
 use Rattle.book_check.proofs.judging.used_fault.Given as goal
 
 abbrev pub invariant-loop-name : goal.invariant-loop-name
-invariant-loop-name l = used_fault (pages_of l.book) l.i l.kind (drop l.name-index l.used) ≡ used_fault (pages_of l.book) l.i l.kind l.used
+invariant-loop-name l = used_fault l.book l.i l.kind (drop l.name-index l.used) ≡ used_fault l.book l.i l.kind l.used

@@ -1,7 +1,7 @@
 use Rattle.std.proofs.Common.{◌<◌, ◌≢◌, length, get_or, sym, refl, ap, ◌∙◌, subst, arith}
 use Rattle.std.proofs.lemmas.List.{get_or-replicate, get_or-set_other, length-set}
-use Rattle.rules.specs.Pages.{pages_of}
-use Rattle.book_check.specs.Resolved.{complete, LineOf, Filler}
+use Rattle.rules.specs.Holds.{complete}
+use Rattle.book_check.specs.Resolved.{LineOf, Filler}
 use Rattle.book_check.proofs.Clears.{accepted_tells, line_whole}
 use Rattle.book_check.proofs.Resolvings.{own_more, line_meant}
 use Rattle.book_check.proofs.resolving.resolve.Goals as goal
@@ -15,7 +15,7 @@ loop-i-init c = (
 
 pub line_of-requires : goal.line_of-requires
 line_of-requires c =
-    let ps = pages_of c.args.book.now in
+    let ps = c.args.book.now in
     let a = accepted_tells ps c.requires in
     let e = c.index-rules-i.is ∙ ap (λ rs. get_or rs c.loop-i.i c.index-rules-i.result) c.lines-rules.ensures in
     let h : c.loop-i.i < length ps.lines = omega (arith, ap length c.lines-rules.ensures) in
@@ -23,7 +23,7 @@ line_of-requires c =
 
 pub loop-i-preserved : goal.loop-i-preserved
 loop-i-preserved c =
-    let ps = pages_of c.args.book.now in
+    let ps = c.args.book.now in
     let a = accepted_tells ps c.requires in
     let i = c.loop-i.i in
     let ls = c.loop-i.lines in
@@ -36,7 +36,7 @@ loop-i-preserved c =
 
 pub returns : goal.returns
 returns c =
-    let ps = pages_of c.args.book.now in
+    let ps = c.args.book.now in
     record {
       own = λ i n r l h.
           let g : i < c.loop-i.i = omega (arith, ap length c.lines-rules.ensures) in
