@@ -20,11 +20,7 @@ pub parts_sound : (ps : List Part) → InRange (sizes ps)
 parts_sound [] = tt
 parts_sound (p ∷ ps) = ((p.low, p.high), parts_sound ps)
 
--- a part that was read as fixed
-pub fix_small : (p : Part) (m : Mm) → p.size ≡ Fix m → m.0 ≤ 16384
-fix_small p m e = subst (λ (s : Size). amount s ≤ highest s) e p.high
-
--- and one that floats
+-- a part that was read as floating
 pub float_small : (p : Part) (w : Weight) → p.size ≡ Float w → w.0 ≤ 1000
 float_small p w e = subst (λ (s : Size). amount s ≤ highest s) e p.high
 
@@ -92,13 +88,6 @@ pub record Laying (f : ℕ → ℕ) (all : List Size) (gs : List Segment) (i : �
 -- the lengths from the i-th on
 abbrev pub onward : (ℕ → ℕ) → ℕ → ℕ → ℕ
 onward f i j = f (i + j)
-
-pub lay_begin : (f : ℕ → ℕ) (g : ℕ → ℕ) (all : List Size) (gs : List Segment) → gs ≡ [] → ((j : ℕ) → f j ≡ g j) → Laying f all gs 0 g all
-lay_begin f g all gs e same = record {
-  lengths = ap (λ t. lengths_of t ++ laid g 0 all) e ∙ sym (laid_same f g 0 all (λ j _. same j));
-  thick = sym (thin_same f g 0 0 all (λ j _. same j));
-  count = ap length e;
-}
 
 module _ (f : ℕ → ℕ) (all : List Size) (gs : List Segment) (i : ℕ) (g : ℕ → ℕ) where
   pub lay_fixed : (hs : List Segment) (m : Mm) (ss : List Size) → Laying f all gs i g (Fix m ∷ ss) → hs ≡ gs ++ record { length = m } ∷ [] → Laying f all hs (i + 1) g ss

@@ -43,6 +43,7 @@ fn amount_of(size: Size) -> u32
 
 impl Part {
     // None where the length or weight is out of range.
+    // Stays: a maker answers None where there is no such value, and there is one reason.
     pub fn new(size: Size) -> Option<Part>
         ensures { MatchOption result (lowest size ≤ amount size → amount size ≤ highest size → ⊥) (λ p. p.size ≡ size) }
     {
@@ -76,6 +77,7 @@ impl Parts {
     }
 
     // The parts that ask for these sizes; None where one is out of range or there are more than 16.
+    // Stays: a maker answers None where there is no such value.
     pub fn from_sizes(wanted: &[Size]) -> Option<Parts>
         ensures { MatchOption result (InRange wanted.now → length wanted.now ≤ 16 → ⊥) (λ p. sizes (parts_of p) ≡ wanted.now) }
     {
@@ -101,6 +103,7 @@ impl Parts {
 
 impl Tile {
     // None where no box has that length.
+    // Stays: a maker answers None where there is no such value, and there is one reason.
     pub fn new(length: Mm) -> Option<Tile>
         ensures { MatchOption result (least ≤ length.0 → length.0 ≤ site → ⊥) (λ t. t.length ≡ length) }
     {
@@ -122,6 +125,7 @@ impl Row {
 
 impl RowRefusal {
     // The number under which the refusal is told.
+    // Stays: a variant holds a part, so the numbers cannot be discriminants.
     pub fn number(self) -> u32
         ensures { result ≡ number self }
     {

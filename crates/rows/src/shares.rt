@@ -13,6 +13,7 @@ use geometry::units::{Mm, Weight};
 use std::cmp::Ordering;
 
 // The whole share of a part and its remainder, told together: quotient and remainder of the rest times the weight by the weight sum.
+// Stays: a pair, since quotient and remainder of one division are told as one.
 pub(crate) fn share(rest: Mm, weight: Weight, sum: Weight) -> (u32, u32)
     requires { (0 < sum.0) × (weight.0 ≤ sum.0) }
     ensures { (result.0 ≡ (rest.0 * weight.0) / sum.0) × (result.1 ≡ (rest.0 * weight.0) % sum.0) }

@@ -1,24 +1,11 @@
 use Rattle.std.proofs.Common.{◌≡◌, ◌+◌, ◌++◌, [], ◌∷◌, length, drop, sym, ap, ◌∙◌, arith, length-append}
-use Rattle.std.proofs.lemmas.List.{at_drop_all, append_assoc, append-nil}
+use Rattle.std.proofs.lemmas.List.{append_assoc}
 use Rattle.bounded.specs.Listed.{listed}
 use Rattle.bounded.proofs.Listed.{pushed_in}
 use Rattle.rows.specs.Rows.{sizes, floats, weight_sum}
 use Rattle.rows.proofs.Looping.{size_read}
 use Rattle.rows.proofs.Fills.{float_small, sum_push}
 use Rattle.rows.proofs.gather.floating.Goals as goal
-
-pub add-sum-requires : goal.add-sum-requires
-add-sum-requires c = omega (arith, float_small c.part-item.result c.in-Float.weight c.in-Float.is, c.as_slice-part-items.ensures.1)
-
-pub loop-part-init : goal.loop-part-init
-loop-part-init c =
-    let e = c.new-list.ensures in
-    record {
-      weights = ap (λ ws. ws ++ floats (sizes c.as_slice-part-items.result.now)) e;
-      sum = sym (ap weight_sum e);
-      small = omega arith;
-      few = omega (arith, ap length e);
-    }
 
 pub loop-part-preserved : goal.loop-part-preserved
 loop-part-preserved c =
@@ -51,12 +38,3 @@ loop-part-preserved c =
             few = omega (arith, ap length list, i.few);
           }
     ]
-
-pub returns : goal.returns
-returns c =
-    let items = c.as_slice-part-items.result.now in
-    let end : floats (sizes (drop c.loop-part.part-index items)) ≡ [] = at_drop_all (λ ps. floats (sizes ps)) items c.loop-part.part-index c.loop-part-test.false in
-    sym (append-nil (listed c.loop-part.list))
-    ∙ ap (λ xs. listed c.loop-part.list ++ xs) (sym end)
-    ∙ c.loop-part.invariant.weights
-    ∙ ap (λ ps. floats (sizes ps)) c.as_slice-part-items.ensures.0

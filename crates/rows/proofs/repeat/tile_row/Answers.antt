@@ -5,16 +5,9 @@ use Rattle.bounded.proofs.Listed.{pushed_in}
 use Rattle.rows.specs.declared.size.Size.{Size}
 use Rattle.rows.specs.Rows.{tile_size}
 use Rattle.rows.specs.Tiles.{tile_length}
-use Rattle.rows.proofs.Fills.{Laying, onward, lay_begin, lay_floating, lay_vanishes, lay_end}
+use Rattle.rows.proofs.Fills.{Laying, onward, lay_floating, lay_vanishes, lay_end}
 use Rattle.rows.proofs.Tiled.{tiles_row, tile_next}
 use Rattle.rows.proofs.repeat.tile_row.Goals as goal
-
-pub loop-i-init : goal.loop-i-init
-loop-i-init c =
-    let f : ℕ → ℕ = tile_length c.args.extent.0 c.args.n in
-    let all : replicate (c.args.n - 0) tile_size ≡ replicate c.args.n tile_size = ap (λ m. replicate m tile_size) (omega arith) in
-    subst (λ (ss : List Size). Laying f (replicate c.args.n tile_size) (listed c.new-segments.result) 0 (onward f 0) ss) (sym all)
-    (lay_begin f (onward f 0) (replicate c.args.n tile_size) (listed c.new-segments.result) c.new-segments.ensures (λ j. ap f (omega arith)))
 
 pub loop-i-preserved : goal.loop-i-preserved
 loop-i-preserved c =

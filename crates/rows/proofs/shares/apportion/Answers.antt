@@ -21,12 +21,6 @@ add-requires c =
     let r : c.args.rest.0 < 2 ^ 32 = search rules in
     omega (arith, w, c.share_out-left.ensures.room i h, c.extra.ensures.1, r)
 
-pub loop-i-init : goal.loop-i-init
-loop-i-init c = record {
-  lengths = λ k h. absurd (omega arith);
-  count = ap length c.new-lengths.ensures;
-}
-
 pub loop-i-preserved : goal.loop-i-preserved
 loop-i-preserved c =
     let items = c.as_slice-quota-items.result.now in
@@ -41,22 +35,17 @@ loop-i-preserved c =
       count = ap length pushed ∙ length_push ms c.add.result ∙ ap (λ n. n + 1) c.loop-i.invariant.count;
     }
 
-pub returns : goal.returns
-returns c =
+pub returns-clause-lengths : goal.returns-clause-lengths
+returns-clause-lengths c = λ k h.
     let ws = listed c.args.weights.now.list in
     let items = c.as_slice-quota-items.result.now in
     let R : ℕ = c.args.rest.0 in
     let W : ℕ = c.args.weights.now.sum.0 in
     let q : items ≡ map (quota R W) ws = c.as_slice-quota-items.ensures.value ∙ c.share_out-left.ensures.quotas in
     let n : length items ≡ length ws = ap length q ∙ length-map ws (quota R W) in
-    record {
-      lengths = λ k h.
-          let here = c.loop-i.invariant.lengths k (omega (arith, n, c.loop-i-test.false)) in
-          let w : whole_at items k ≡ whole R (weight_at ws) W k = ap (λ qs. whole_at qs k) q ∙ quota_whole R W ws k h in
-          let a : ahead items (remainder_at items k) k ≡ rank_by (before tie (length ws) (remainder R (weight_at ws) W)) (length ws) k =
-          ap (λ qs. ahead qs (remainder_at qs k) k) q ∙ quota_rank R W ws k h in
-          let e = c.share_out-left.ensures.left in
-          cc;
-      count = omega (arith, c.loop-i.invariant.count, n, c.loop-i-test.false);
-      left = c.share_out-left.ensures.left;
-    }
+    let here = c.loop-i.invariant.lengths k (omega (arith, n, c.loop-i-test.false)) in
+    let w : whole_at items k ≡ whole R (weight_at ws) W k = ap (λ qs. whole_at qs k) q ∙ quota_whole R W ws k h in
+    let a : ahead items (remainder_at items k) k ≡ rank_by (before tie (length ws) (remainder R (weight_at ws) W)) (length ws) k =
+    ap (λ qs. ahead qs (remainder_at qs k) k) q ∙ quota_rank R W ws k h in
+    let e = c.share_out-left.ensures.left in
+    cc

@@ -16,9 +16,6 @@ nothing_floats c =
     ∙ split_row_lem c.args.extent.0 ss (omega (arith, c.fixed_sum-fixed.ensures)) (inr nothing)
     (left_fits c.args.extent.0 ss (parts_sound (parts_of c.args.parts.now)) (inr nothing)) (length_at []) (λ k h. omega arith)
 
-pub returns-then-n-eq0-clause-row : goal.returns-then-n-eq0-clause-row
-returns-then-n-eq0-clause-row c = nothing_floats c
-
 pub returns-then-n-eq0-clause-laws : goal.returns-then-n-eq0-clause-laws
 returns-then-n-eq0-clause-laws c =
     told_lawful c.args.extent.0 (sizes (parts_of c.args.parts.now)) c.fill.result (parts_sound (parts_of c.args.parts.now)) (nothing_floats c)
