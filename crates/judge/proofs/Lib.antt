@@ -2,4 +2,3 @@ pub mod Balanced
 pub mod Levels
 pub mod Accepted
 pub mod Filed
-pub mod Onward

@@ -2,8 +2,7 @@
 use Rattle.std.specs.Prelude.{◌≡◌, ℕ, ◌+◌, ◌-◌, ◌<◌, ◌≤◌, Bool, true, false, cond, ◌⊎◌, List, [], ◌∷◌, length, Some, None, Option, nat_lt, slice_index}
 use Rattle.text.specs.Bytes.{allowed}
 use Rattle.text.specs.Findings.{or_else, line_limit}
-use Rattle.text.specs.Lines.{is_blank, lines_left}
-use Rattle.text.specs.declared.lines.Lines.{Lines}
+use Rattle.text.specs.Lines.{is_blank}
 use Rattle.text.specs.Tokens.{Lexeme, tokens_of}
 use Rattle.text.specs.declared.placed.Placed.{Placed}
 use Rattle.grammar.specs.Forms.{Form, Fits, spell, plain}
@@ -43,28 +42,6 @@ module _ {S : Type 0} (Grown : ℕ → List ℕ → S → S → Type 0) where
   abbrev pub Leads : ℕ → List (List ℕ) → S → S → Type 0
   Leads n [] p q = q ≡ p
   Leads n (l ∷ ls) p q = (m : S) × (Grown n l p m) × Leads (n + 1) ls m q
-
--- lines that are read into something that grows by them, of which `left` tells what later lines are judged by
-module _ {S P : Type 0} (judge : S → ℕ → List ℕ → Option (Placed Fault)) (after : S → List ℕ → S) (left : P → S)
-    (Grown : ℕ → List ℕ → P → P → Type 0) where
-  -- a line is judged after what was left; it is refused, and nothing is altered, or it is added
-  abbrev pub Taken : ℕ → List ℕ → P → P → Option (Placed Fault) → Type 0
-  Taken n l p q (Some f) = (judge (left p) n l ≡ Some f) × (q ≡ p)
-  Taken n l p q None = (judge (left p) n l ≡ None) × (Grown n l p q)
-
-  -- the verdict on the lines that are to come after p
-  abbrev pub verdict_left : Lines → P → Option (Placed Fault)
-  verdict_left s p = verdict_from judge after (left p) (s.before + 1) (lines_left s)
-
-  -- they lead from p to q
-  abbrev pub LeadsLeft : Lines → P → P → Type 0
-  LeadsLeft s p q = Leads Grown (s.before + 1) (lines_left s) p q
-
-  -- the lines that are to come after p were read; or one was refused, and what is read is empty
-  module _ (Fits : P → Type 0) (empty : P) where
-    abbrev pub AllTaken : Lines → P → P → Option (Placed Fault) → Type 0
-    AllTaken s p q (Some f) = (Some f ≡ verdict_left s p) × (q ≡ empty)
-    AllTaken s p q None = (None ≡ verdict_left s p) × (LeadsLeft s p q) × (Fits q)
 
 -- a line spells the form, which may stand in the file and has its numbers and names in order
 pub record Spells (k : FileKind) (l : List ℕ) (f : Form) : Type 0 where
