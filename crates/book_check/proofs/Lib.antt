@@ -1,3 +1,4 @@
+pub mod Nexts
 pub mod Finds
 pub mod Judgings
 pub mod Clears

@@ -85,8 +85,8 @@ fn first_fault(book: &Book) -> Option<Placed<Fault>>
 {
     let names = book.names();
     let lines = book.lines();
-    for i in 0..names.len().min(lines.len()) {
-        if let Some(fault) = line_fault(book, i, &names[i], &lines[i]) {
+    for (i, (name, line)) in names.iter().zip(lines).enumerate() {
+        if let Some(fault) = line_fault(book, i, name, line) {
             return Some(fault);
         }
     }

@@ -32,8 +32,8 @@ fn targets(book: &Book, kind: Kind, used: &[Placed<&[u8]>]) -> [u8; 16]
     ensures { take (length used.now) result ≡ map target_of (meanings book.now kind used.now) }
 {
     let mut numbers = [0; 16];
-    for i in 0..used.len() {
-        numbers[i] = target_of(meaning(book, kind, used[i].value));
+    for (i, name) in used.iter().enumerate() {
+        numbers[i] = target_of(meaning(book, kind, name.value));
     }
     numbers
 }
@@ -97,8 +97,8 @@ fn resolve(book: &Book) -> [Line; 64]
     let names = book.names();
     let rules = book.lines();
     let mut lines = [filler(); 64];
-    for i in 0..rules.len() {
-        lines[i] = line_of(book, &names[i], &rules[i]);
+    for (i, (name, rule)) in names.iter().zip(rules).enumerate() {
+        lines[i] = line_of(book, name, rule);
     }
     lines
 }

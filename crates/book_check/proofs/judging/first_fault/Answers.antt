@@ -1,27 +1,49 @@
-use Rattle.std.proofs.Common.{◌<◌, ◌≤◌, length, Some, None, sym, ◌∙◌, ⊎_elim, arith}
-use Rattle.std.proofs.lemmas.Bool.{cases_lt}
-use Rattle.book_check.proofs.Judgings.{lines_more, names_end, lines_end}
+use Rattle.std.proofs.Common.{◌≡◌, ◌+◌, Option, drop, ap, sym, ◌∙◌, ⊎_elim}
+use Rattle.text.specs.Findings.{or_else}
+use Rattle.text.specs.declared.placed.Placed.{Placed}
+use Rattle.judge.specs.declared.faults.Fault.{Fault}
+use Rattle.book_check.specs.Faults.{lines_fault, line_fault, book_fault}
+use Rattle.book_check.proofs.Judgings.{lines_more, names_over, lines_over}
+use Rattle.book_check.proofs.Nexts.{next_of, Next}
 use Rattle.book_check.proofs.judging.first_fault.Goals as goal
+use Rattle.book_check.proofs.judging.first_fault.Goals.{After-line_fault}
 
-pub returns-in-Some : goal.returns-in-Some
-returns-in-Some c =
-    let a : c.loop-i.i < length c.names-names.result.now = omega arith in
-    let b : c.loop-i.i < length c.lines-lines.result.now = omega arith in
-    sym (lines_more c.args.book.now c.loop-i.i c.names-names.result.now c.lines-lines.result.now _ c.index-lines-i.result (Some c.in-Some.fault) a b c.names-names.ensures c.index-lines-i.is c.in-Some.ensures)
-    ∙ c.loop-i.invariant
+-- the name that was read, and those after it
+name : (c : After-line_fault) → Next c.args.book.now.names c.loop-i.i-iterator.count c.in-Some.name.now c.next.new.self.iter.a.rest.now
+name c = next_of _ _ _ _ (c.loop-i.invariant.0 ∙ c.in-Some.ensures.steps.0.0)
+
+-- what is found of the rest
+abbrev rest : After-line_fault → Option (Placed Fault)
+rest c = lines_fault c.args.book.now (c.loop-i.i-iterator.count + 1) c.next.new.self.iter.a.rest.now c.next.new.self.iter.b.rest.now
+
+-- what was found of the line stands before what is found of the rest
+found : (c : After-line_fault) → or_else c.line_fault.result (rest c) ≡ book_fault c.args.book.now
+found c =
+    let ps = c.args.book.now in
+    let i = c.loop-i.i-iterator.count in
+    let n = c.in-Some.name.now in
+    let r = c.in-Some.line.now in
+    let h = c.in-Some.ensures.steps in
+    let e : c.line_fault.result ≡ line_fault ps i n (drop (i + 1) ps.names) r = c.line_fault.ensures ∙ ap (λ k. line_fault ps k n (drop (k + 1) ps.names) r) h.1 in
+    sym (lines_more ps i _ _ n _ r _ c.line_fault.result h.0.0 h.0.1 (name c).left e) ∙ c.loop-i.invariant.1
+
+pub returns-in-Some-line_fault : goal.returns-in-Some-line_fault
+returns-in-Some-line_fault c =
+    let a = (goal.at.returns-in-Some-line_fault c).After-line_fault in
+    ap (λ o. or_else o (rest a)) (sym c.in-Some-line_fault.is) ∙ found a
 
 pub loop-i-preserved : goal.loop-i-preserved
 loop-i-preserved c =
-    let a : c.loop-i.i < length c.names-names.result.now = omega arith in
-    let b : c.loop-i.i < length c.lines-lines.result.now = omega arith in
-    sym (lines_more c.args.book.now c.loop-i.i c.names-names.result.now c.lines-lines.result.now _ c.index-lines-i.result None a b c.names-names.ensures c.index-lines-i.is c.in_default.ensures)
-    ∙ c.loop-i.invariant
+    let a = (goal.at.loop-i-preserved c).After-line_fault in
+    let h = c.in-Some.ensures.steps in (
+      ap (λ k. drop k c.args.book.now.names) h.2 ∙ sym (name a).left,
+      ap (λ k. lines_fault c.args.book.now k c.next.new.self.iter.a.rest.now c.next.new.self.iter.b.rest.now) h.2
+          ∙ (ap (λ o. or_else o (rest a)) (sym c.in_default.is) ∙ found a),
+    )
 
 pub returns : goal.returns
 returns c =
-    let ps = c.args.book.now in
-    let ns = c.names-names.result.now in
-    let rs = c.lines-lines.result.now in
-    ⊎_elim (λ h. let g : length rs ≤ c.loop-i.i = omega arith in sym (lines_end ps c.loop-i.i ns rs g) ∙ c.loop-i.invariant)
-    (λ h. sym (names_end ps c.loop-i.i ns rs h) ∙ c.loop-i.invariant)
-    (cases_lt c.loop-i.i (length ns))
+    let s = c.loop-i.i-iterator in
+    ⊎_elim (λ a. sym (names_over c.args.book.now s.count s.iter.a.rest.now s.iter.b.rest.now a.1.0) ∙ c.loop-i.invariant.1)
+    (λ b. sym (lines_over c.args.book.now s.count s.iter.a.rest.now s.iter.b.rest.now b.1.0) ∙ c.loop-i.invariant.1)
+    c.in-None.ensures.steps.0
