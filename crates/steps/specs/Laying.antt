@@ -10,7 +10,7 @@ use Rattle.rows.specs.declared.refusal.RowRefusal.{RowRefusal}
 use Rattle.rows.specs.Rows.{told, told_of, segments_of}
 use Rattle.rows.specs.Laws.{Thick}
 use Rattle.stack.specs.declared.Stack.{Stack}
-use Rattle.stack.specs.Held.{capacity}
+use Rattle.stack.specs.Held.{entries, capacity}
 use Rattle.book.specs.Lines.{Known}
 use Rattle.derivation.specs.Derive.{box_of, rule_of, length_on, Cut}
 use Rattle.steps.specs.declared.stop.Reason.{Reason}
@@ -19,6 +19,10 @@ use Rattle.steps.specs.declared.stop.Reason.TheVariants as reason
 -- the same slice of the same lender, as long as it was
 abbrev pub SameSlice : Stack Scope → Stack Scope → Type 0
 SameSlice s t = (capacity t ≡ capacity s) × (t.slots.ghost_name ≡ s.slots.ghost_name)
+
+-- the scope is the top entry
+abbrev pub OnTop : Stack Scope → Scope → Type 0
+OnTop t s = entries t ≡ s ∷ drop 1 (entries t)
 
 -- lengths that fill L, each with a rule of its own
 pub record Filling (L : ℕ) (ns rs : List ℕ) : Type 0 where

@@ -6,7 +6,7 @@ ghost use Rattle.stack.specs.Held.{entries, capacity};
 ghost use Rattle.book.specs.Checks.{part_rules};
 ghost use Rattle.book.specs.Lines.{lines_of, Known, BodyOk};
 ghost use Rattle.derivation.specs.Derive.{length_on, block_of};
-ghost use Rattle.steps.specs.Laying.{Divides, SameSlice};
+ghost use Rattle.steps.specs.Laying.{Divides, OnTop, SameSlice};
 ghost use Rattle.steps.specs.Acting.{Acts, Stepped};
 
 use crate::laying::{cut, relabel};
@@ -38,7 +38,7 @@ fn tile_out(
     tile: Tile,
     rule: u8,
 ) -> Result<(), Reason>
-    requires top { entries stack.old ≡ scope ∷ drop 1 (entries stack.old) }
+    requires top { OnTop stack.old scope }
     requires known { rule < most_lines }
     ensures divides { Divides scope axis (repeat_row (length_on axis scope) tile.length.0) (λ ns. replicate (length ns) rule) (entries stack.old) (entries stack.new) (capacity stack.old) result }
     ensures slice { SameSlice stack.old stack.new }
@@ -54,7 +54,7 @@ fn split_up(
     parts: &Parts,
     rules: &[u8; 16],
 ) -> Result<(), Reason>
-    requires top { entries stack.old ≡ scope ∷ drop 1 (entries stack.old) }
+    requires top { OnTop stack.old scope }
     requires known { Known (part_rules parts.now rules.now) }
     ensures divides { Divides scope axis (split_row (length_on axis scope) (sizes (parts_of parts.now))) (λ _. part_rules parts.now rules.now) (entries stack.old) (entries stack.new) (capacity stack.old) result }
     ensures slice { SameSlice stack.old stack.new }
@@ -79,7 +79,7 @@ fn make<S: Sink>(
     scope: Scope,
     material: u8,
 ) -> Result<(), Reason>
-    requires top { entries stack.old ≡ scope ∷ drop 1 (entries stack.old) }
+    requires top { OnTop stack.old scope }
     ensures acts { Acts S.Sink.edge S.Sink.parts S.Sink.took S.Sink.kept (Body.Make material) scope (entries stack.old) (entries stack.new) (capacity stack.old) sink.old sink.new result }
     ensures slice { SameSlice stack.old stack.new }
 {
@@ -94,7 +94,7 @@ fn act<S: Sink>(
     scope: Scope,
     body: &Body,
 ) -> Result<(), Reason>
-    requires top { entries stack.old ≡ scope ∷ drop 1 (entries stack.old) }
+    requires top { OnTop stack.old scope }
     requires ok { (i : ℕ) × BodyOk i body.now }
     ensures acts { Acts S.Sink.edge S.Sink.parts S.Sink.took S.Sink.kept body.now scope (entries stack.old) (entries stack.new) (capacity stack.old) sink.old sink.new result }
     ensures slice { SameSlice stack.old stack.new }
@@ -129,7 +129,7 @@ pub(crate) fn step<S: Sink>(
     sink: &mut S,
     scope: Scope,
 ) -> Result<(), Stop>
-    requires { entries stack.old ≡ scope ∷ drop 1 (entries stack.old) }
+    requires { OnTop stack.old scope }
     ensures steps { Stepped S.Sink.edge S.Sink.parts S.Sink.took S.Sink.kept (lines_of table.now) (entries stack.old) (entries stack.new) (capacity stack.old) sink.old sink.new result }
     ensures slice { SameSlice stack.old stack.new }
 {

@@ -1,11 +1,13 @@
 // Replacing the top scope by the scopes of a row, or by one with another rule.
+// Stays: each function here and in acting asks that its scope lies on top. As a ghost field of a struct with the stack the
+// fact would have to hold after the step too, when that scope is gone.
 ghost use Rattle.std.specs.Prelude.{◌≡◌, ℕ, ◌<◌, ◌≤◌, ◌∷◌, length, take, drop, IfOk};
 ghost use Rattle.geometry.specs.Boxes.{span_on, Within, Piece};
 ghost use Rattle.geometry.specs.Limits.{most_lines};
 ghost use Rattle.rows.specs.Rows.{told, lengths_of, segments_of};
 ghost use Rattle.stack.specs.Held.{entries, capacity};
 ghost use Rattle.derivation.specs.Derive.{length_on};
-ghost use Rattle.steps.specs.Laying.{Filling, Lays, Cuts, Relabelled, SameSlice};
+ghost use Rattle.steps.specs.Laying.{Filling, Lays, Cuts, OnTop, Relabelled, SameSlice};
 
 use crate::stop::Reason;
 use bounded::full::Full;
@@ -31,10 +33,10 @@ fn piece(scope: Scope, axis: Axis, offset: Mm, length: Mm, rule: u8) -> Scope
     ensures cuboid { Piece scope.cuboid axis offset.0 length.0 result.cuboid }
     ensures rule { result.rule ≡ rule }
 {
-    match scope.cuboid.piece(axis, offset, length) {
-        Some(cuboid) => scope_at(cuboid, rule),
-        None => unreachable(),
-    }
+    let Some(cuboid) = scope.cuboid.piece(axis, offset, length) else {
+        unreachable!()
+    };
+    scope_at(cuboid, rule)
 }
 
 // The top scope is replaced by the scopes of a row, the lowest on top; refused, and nothing altered, where entries lack.
@@ -45,7 +47,7 @@ fn lay(
     segments: &[Segment],
     rules: &[u8],
 ) -> Result<(), Full>
-    requires top { entries stack.old ≡ scope ∷ drop 1 (entries stack.old) }
+    requires top { OnTop stack.old scope }
     requires row { Filling (length_on axis scope) (lengths_of segments.now) rules.now }
     ensures lays { Lays (entries stack.old) (entries stack.new) (capacity stack.old) scope axis (lengths_of segments.now) rules.now result }
     ensures slice { SameSlice stack.old stack.new }
@@ -70,7 +72,7 @@ pub(crate) fn cut(
     row: Result<Row, RowRefusal>,
     rules: &[u8],
 ) -> Result<(), Reason>
-    requires top { entries stack.old ≡ scope ∷ drop 1 (entries stack.old) }
+    requires top { OnTop stack.old scope }
     requires row { IfOk row (λ r. Filling (length_on axis scope) (told r) (take (length (segments_of r)) rules.now)) }
     ensures cuts { Cuts scope axis row rules.now (entries stack.old) (entries stack.new) (capacity stack.old) result }
     ensures slice { SameSlice stack.old stack.new }
@@ -83,7 +85,7 @@ pub(crate) fn cut(
 
 // The top scope goes on with another rule.
 pub(crate) fn relabel(stack: &mut Stack<'_, Scope>, scope: Scope, rule: u8)
-    requires top { entries stack.old ≡ scope ∷ drop 1 (entries stack.old) }
+    requires top { OnTop stack.old scope }
     requires known { rule < most_lines }
     ensures left { Relabelled scope rule (entries stack.old) (entries stack.new) }
     ensures slice { SameSlice stack.old stack.new }
