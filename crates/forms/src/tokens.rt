@@ -1,4 +1,5 @@
 // Tokens of a line as a form wants them, taken one after the other.
+// Stays: None says that what is wanted does not stand there, with nothing more to tell, so that readers answer an Option.
 ghost use Rattle.forms.specs.Taken.{TookOpen, TookClose, TookName, TookNumber, AxisIn, TookAxis, TookHead, TookEnd, TookLastName, TookTriple};
 
 use geometry::axis::Axis;
@@ -10,6 +11,7 @@ use text::takes::take;
 use text::tokens::{Token, Tokens};
 
 // The opening bracket of a first part.
+// Stays: this and the next two differ in what can no longer come where None is answered, which each one's clause says.
 pub(crate) fn expect_open(tokens: &mut Tokens) -> Option<Placed<()>>
     ensures { TookOpen tokens.old tokens.new result }
 {

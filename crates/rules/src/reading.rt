@@ -19,6 +19,7 @@ use text::placed::Placed;
 use text::tokens::is_blank;
 
 // The material that a line declares, at the end of the book; None where it declares none or there is no room.
+// Stays: nobody asks which of the two it was, so that this and the next two answer an Option.
 fn add_material<'a>(line: Line<'a>, book: &mut Book<'a>) -> Option<()>
     ensures { MaterialTaken line.entry.number line.entry.bytes.now book.old book.new result }
 {
