@@ -17,7 +17,7 @@ pub every_more : {X : Type 0} (p : X → Bool) (xs : List X) (i : ℕ) (d : X) (
 every_more p xs i d b h e = at_drop_more (every p) xs i d h ∙ ap (λ x. x && every p (drop (i + 1) xs)) (sym e)
 
 -- the last of n + 1 lines
-last_is_lem : (ls : List Line) (n : ℕ) (d : Line) → length ls ≡ n + 1 → last_free ls ≡ eqb (length (guards_of (get_or ls n d))) 0
+pub last_is_lem : (ls : List Line) (n : ℕ) (d : Line) → length ls ≡ n + 1 → last_free ls ≡ eqb (length (guards_of (get_or ls n d))) 0
 last_is_lem [] n d e = absurd (omega arith)
 last_is_lem (l ∷ []) zero d e = refl
 last_is_lem (l ∷ []) (suc n) d e = absurd (omega arith)
