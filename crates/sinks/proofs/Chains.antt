@@ -1,5 +1,5 @@
 -- What a sink tells after blocks that it took one after another.
-use Rattle.std.proofs.Common.{◌≡◌, ℕ, ◌+◌, ◌*◌, ◌/◌, ◌<◌, ◌≤◌, List, [], ◌∷◌, ◌++◌, length, get_or, take, Ok, Err, sym, refl, ap, ◌∙◌, subst, arith}
+use Rattle.std.proofs.Common.{◌≡◌, ℕ, ◌+◌, ◌*◌, ◌/◌, ◌<◌, List, [], ◌∷◌, ◌++◌, length, get_or, take, Ok, Err, sym, refl, ap, ◌∙◌, subst, arith}
 use Rattle.std.proofs.lemmas.List.{take_more, take_all, get_or_read}
 use Rattle.geometry.specs.declared.block.Block.{Block}
 use Rattle.geometry.specs.declared.cell.Cell.{Cell}
@@ -83,13 +83,6 @@ offers_refused {S} edge parts took kept s t u blocks n b e h is chain at o =
     }
 
 -- where nothing was refused, all blocks were taken
-pub offers_all : {S : Type 0} (edge : ℕ) (parts : S → Parts) (took : S → Block → S → Type 0) (kept : S → S → Type 0) (s t : S) (blocks : List Block) (n : ℕ)
-    → length blocks ≤ n → Chain (Taking edge parts took) s (take n blocks) t → Offers edge parts took kept s t blocks (Ok tt)
-offers_all {S} edge parts took kept s t blocks n h chain =
-    let P : List Block → Type 0 = λ bs. Chain (Taking edge parts took) s bs t in
-    let all : take n blocks ≡ take (length blocks) blocks = take_all n blocks h ∙ sym (take_all (length blocks) blocks (omega arith)) in
-    record { within = omega arith; through = t; chain = subst P all chain; ending = refl }
-
 pub offers_whole : {S : Type 0} (edge : ℕ) (parts : S → Parts) (took : S → Block → S → Type 0) (kept : S → S → Type 0) (s t : S) (blocks : List Block)
     → Offers edge parts took kept s t blocks (Ok tt) → Chain (Taking edge parts took) s blocks t
 offers_whole {S} edge parts took kept s t blocks offers =

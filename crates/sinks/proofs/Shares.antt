@@ -20,6 +20,9 @@ extent_le s = omega (arith, s.inside)
 pub volume_le : (c : Cuboid) → volume_of c ≤ limit
 volume_le c = mul-le-mul (mul-le-mul (extent_le c.x) (extent_le c.y)) (extent_le c.z)
 
+pub shared_small : (e : ℕ) (d : Cell) (c : Cuboid) → shared_with e d c ≤ limit
+shared_small e d c = omega (arith, shared_le e d c, volume_le c)
+
 -- no overlap on one axis
 pub none_x : (e : ℕ) (d : Cell) (c : Cuboid) → overlap e d.i c.x ≡ 0 → shared_with e d c ≡ 0
 none_x e d c z = ap (λ n. n * overlap e d.j c.y * overlap e d.k c.z) z ∙ ap (λ n. n * overlap e d.k c.z) (zero-mul _) ∙ zero-mul _

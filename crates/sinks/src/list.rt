@@ -55,20 +55,14 @@ impl<'s> BlockList<'s> {
     }
 }
 
-// The volume that a block shares with a cell of edge 1, which is one cube.
-#[tactic(auto, using(crate::proofs::Blocks::shared_one))]
-fn share_of(block: &Block, cell: Cell) -> u64
-    ensures share { result ≡ shared_with 1 cell block.now.cuboid }
-    ensures one { result ≤ 1 }
-{
-    block.cuboid.shared(1, cell)
-}
-
-// The volume that blocks share with such a cell.
+// The volume that blocks share with a cell of edge 1.
 fn shared_of(blocks: &[Block], cell: Cell) -> u64
     ensures { result ≡ shared_by 1 cell blocks.now }
 {
-    blocks.iter().map(|block| share_of(block, cell)).sum()
+    blocks
+        .iter()
+        .map(|block| block.cuboid.shared(1, cell))
+        .sum()
 }
 
 impl<'s> Sink for BlockList<'s> {

@@ -24,14 +24,6 @@ fn place_of(cell: Cell) -> usize
     (cell.i + 16 * cell.j + 256 * cell.k) as usize
 }
 
-// The volume that a box shares with a cell.
-fn share_of(cell: Cell, cuboid: Cuboid) -> u64
-    ensures share { result ≡ shared_with 1024 cell cuboid }
-    ensures small { result ≤ limit }
-{
-    cuboid.shared(1024, cell)
-}
-
 // The first stretch of the grid that a stretch reaches, and the one after the last.
 fn reach(span: Span) -> (u32, u32)
     ensures first { result.0 ≡ first_of span }
@@ -55,7 +47,7 @@ fn add_box(cells: &mut [u64], cuboid: Cuboid)
         for j in south..north {
             for i in west..east {
                 let cell = Cell { i, j, k };
-                cells[place_of(cell)] += share_of(cell, cuboid);
+                cells[place_of(cell)] += cuboid.shared(1024, cell);
             }
         }
     }

@@ -2,7 +2,7 @@ use Rattle.std.proofs.Common.{Result, subst, rules, tests}
 use Rattle.sinks.specs.Laws.{Offers}
 use Rattle.sinks.specs.Meaning.{Taking}
 use Rattle.sinks.specs.declared.offers.Refused.{Refused}
-use Rattle.sinks.proofs.Chains.{offers_more, offers_refused, offers_all}
+use Rattle.sinks.proofs.Chains.{offers_more, offers_refused}
 use Rattle.sinks.proofs.offers.offer_all.Goals as goal
 
 pub returns-in_err-offer : goal.returns-in_err-offer
@@ -18,9 +18,3 @@ loop-taken-preserved g c =
     let k = g.S.Sink in
     offers_more (Taking k.edge k.parts k.took) c.args.sink.now c.loop-taken.sink c.offer.new.sink c.args.blocks.now c.loop-taken.taken c.index-blocks-taken.result
     c.loop-taken-test.true c.index-blocks-taken.is c.loop-taken.invariant (c.in_ok-offer.ensures.takes, c.in_ok-offer.ensures.state)
-
-pub returns : goal.returns
-returns g c =
-    let k = g.S.Sink in
-    offers_all k.edge k.parts k.took k.kept c.args.sink.now c.loop-taken.sink c.args.blocks.now
-    c.loop-taken.taken c.loop-taken-test.false c.loop-taken.invariant

@@ -1,6 +1,7 @@
 use Rattle.std.proofs.Common.{◌≡◌, true, arith, rules}
 use Rattle.geometry.specs.declared.cell.Cell.{Cell}
 use Rattle.sinks.specs.Meaning.{in_grid}
+use Rattle.sinks.proofs.Shares.{shared_small}
 use Rattle.sinks.proofs.Places.{before, beyond, share_x, share_y, share_z, shared_none, shared_skip, shared_more}
 use Rattle.sinks.proofs.raster.raster_sink.add_box.Goals as goal
 
@@ -17,11 +18,17 @@ loop-i-init c =
     shared_skip 0 _ _ c.args.cuboid c.args.cells.now c.loop-j.cells (omega arith) c.loop-j.invariant
     (λ n l h. share_x n c.args.cuboid (before _ c.args.cuboid.x (omega (arith, c.reach-west.ensures.first, c.reach-west.ensures.inside.0, c.reach-west.ensures.inside.1))))
 
+pub overflow_add-cells : goal.overflow_add-cells
+overflow_add-cells c =
+    let p = c.place_of.result in
+    let d : Cell = record { i = c.loop-i.i; j = c.loop-j.j; k = c.loop-k.k } in
+    omega (arith, c.loop-i.invariant.over p (omega (arith, c.place_of.ensures.0)), c.requires.1 p (omega arith), c.shared.ensures, shared_small 1024 d c.args.cuboid)
+
 pub loop-i-preserved : goal.loop-i-preserved
 loop-i-preserved c =
     let d : Cell = record { i = c.loop-i.i; j = c.loop-j.j; k = c.loop-k.k } in
     let within : in_grid 1024 d ≡ true = search rules in
-    shared_more c.args.cuboid c.args.cells.now c.loop-i.cells d _ _ _ _ within c.place_of.ensures.0 c.share_of.ensures.share
+    shared_more c.args.cuboid c.args.cells.now c.loop-i.cells d _ _ _ _ within c.place_of.ensures.0 c.shared.ensures
     (omega (arith, c.place_of.ensures.0)) (omega (arith, c.place_of.ensures.0)) (omega (arith, c.place_of.ensures.1, c.loop-i.auto.cells, c.requires.0)) c.loop-i.invariant
 
 pub loop-j-preserved : goal.loop-j-preserved
