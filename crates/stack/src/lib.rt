@@ -1,4 +1,5 @@
 // A stack over a slice that the caller lends. It passes its slice whole to the functions below, which read and write it.
+// Stays: a question takes the stack for writing, and alters nothing, as the slice is passed on.
 #![tactic(auto)]
 
 ghost use Rattle.std.specs.Prelude.{◌≡◌, ℕ, ◌-◌, ◌<◌, min, [], length};

@@ -1,6 +1,7 @@
 // Replacing the top scope by the scopes of a row, or by one with another rule.
-// Stays: each function here and in acting asks that its scope lies on top. As a ghost field of a struct with the stack the
-// fact would have to hold after the step too, when that scope is gone.
+// Stays: each function here and in acting asks that its scope lies on top, and says that the slice is the same. As a ghost
+// field of a struct with the stack the first would have to hold after the step too, when that scope is gone; the second
+// compares two states of the stack, which no field of one state can.
 ghost use Rattle.std.specs.Prelude.{◌≡◌, ℕ, ◌<◌, ◌≤◌, ◌∷◌, length, take, drop, IfOk};
 ghost use Rattle.geometry.specs.Boxes.{span_on, Within, Piece};
 ghost use Rattle.geometry.specs.Limits.{most_lines};
