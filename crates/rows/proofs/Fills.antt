@@ -128,14 +128,6 @@ sound_weights (Fix m ∷ ss) s k h = sound_weights ss s.1 k h
 sound_weights (Float w ∷ ss) s zero h = s.0
 sound_weights (Float w ∷ ss) s (suc k) h = sound_weights ss s.1 k (omega arith)
 
-pub floats_few : (ps : List Part) → length (floats (sizes ps)) ≤ length ps
-floats_few [] = omega arith
-floats_few (p ∷ ps) =
-    (elim p.size as (λ s. length (floats (s ∷ sizes ps)) ≤ length (p ∷ ps)) [
-      | Fix m ↦ omega (arith, floats_few ps)
-      | Float w ↦ omega (arith, floats_few ps)
-    ])
-
 pub sum_positive : (ss : List Size) → InRange ss → 0 < length (floats ss) → 0 < weight_sum (floats ss)
 sum_positive ss s h =
     omega (arith, total_part (weight_at (floats ss)) (length (floats ss)) 0 h, (sound_weights ss s 0 h).0)
