@@ -1,8 +1,9 @@
 -- Boxes that share a cube.
-use Rattle.std.proofs.Common.{◌≡◌, ℕ, ◌+◌, ◌<◌, ◌≤◌, max, true, ◌||◌, List, [], ◌∷◌, map, refl, ap, arith}
+use Rattle.std.proofs.Common.{◌≡◌, ℕ, ◌+◌, ◌<◌, ◌≤◌, max, Bool, true, ◌||◌, List, [], ◌∷◌, map, refl, ap, ◌∙◌, arith}
 use Rattle.std.specs.List.{list_any}
 use Rattle.std.proofs.lemmas.Bool.{and_parts, and_from, ltb-true, lt-ltb}
-use Rattle.lots.specs.Lists.{Box, boxed}
+use Rattle.geometry.specs.declared.cuboid.Cuboid.{Cuboid}
+use Rattle.lots.specs.Lists.{Box, box_of, boxed}
 use Rattle.lots.specs.declared.list.Lot.{Lot}
 use Rattle.lots.specs.Shares.{meets, shares, shares_any, Spans, SharesACube}
 
@@ -28,7 +29,14 @@ shares_a_cube a b hx hy hz kx ky kz = (
       (and_from _ _ (both a.py a.sy b.py b.sy c.1 c.3.1 c.4.1) (both a.pz a.sz b.pz b.sz c.2 c.3.2 c.4.2)),
 )
 
--- a box shares a cube with that of a lot
-pub shares_any_lot : (a : Box) (ls : List Lot) → shares_any a (map boxed ls) ≡ list_any (λ l. shares a (boxed l)) ls
-shares_any_lot a [] = refl
-shares_any_lot a (l ∷ ls) = ap (λ t. shares a (boxed l) || t) (shares_any_lot a ls)
+-- a box shares a cube with one of a list, as a chain finds it
+module _ {X : Type 0} (a : Box) (f : X → Box) where
+  any_map : (xs : List X) → list_any (λ x. shares a (f x)) xs ≡ shares_any a (map f xs)
+  any_map [] = refl
+  any_map (x ∷ xs) = ap (λ t. shares a (f x) || t) (any_map xs)
+
+pub shares_any_box : (a : Box) (cs : List Cuboid) (r : Bool) → r ≡ list_any (λ c. shares a (box_of c)) cs → r ≡ shares_any a (map box_of cs)
+shares_any_box a cs r e = e ∙ any_map a box_of cs
+
+pub shares_any_lot : (a : Box) (ls : List Lot) (r : Bool) → r ≡ list_any (λ l. shares a (boxed l)) ls → r ≡ shares_any a (map boxed ls)
+shares_any_lot a ls r e = e ∙ any_map a boxed ls

@@ -3,11 +3,13 @@ ghost use Rattle.std.specs.Prelude.{◌≡◌, ◌≤◌, length, IsOk, refl};
 ghost use Rattle.std.specs.Result.{result_err};
 ghost use Rattle.std.proofs.Common.{rules};
 ghost use Rattle.lots.specs.Holds.{left_by, Sized, BoxMade, LotPlaced, LotTaken, Fitting, Grown, verdict_after, FileTaken};
-ghost use Rattle.lots.specs.Lists.{no_lots};
+ghost use Rattle.std.specs.List.{list_any};
+ghost use Rattle.lots.specs.Lists.{no_lots, box_of, boxed};
+ghost use Rattle.lots.specs.Shares.{shares};
 ghost use Rattle.lots.specs.Verdicts.{most_lots, too_many, no_lot, verdict, LotsInOrder};
 
 use crate::list::{Lot, LotList};
-use crate::sharing::share_any;
+use crate::sharing::share;
 use by_lines::files::{Grow, TakeLines, read_file};
 use forms::lot::LotLine;
 use forms::lots::read_lot;
@@ -30,6 +32,13 @@ fn lot_box(lot: &LotLine) -> Option<Cuboid>
     Cuboid::new(lot.corner, lot.size)
 }
 
+// Whether a box shares a cube with that of a lot of the list.
+fn shares_with_lot(a: Cuboid, list: &LotList) -> bool
+    ensures { result ≡ list_any (λ lot. shares (box_of a) (boxed lot)) list.now.lots }
+{
+    list.lots.as_slice().iter().any(|lot| share(a, lot.cuboid))
+}
+
 // A lot whose box lies in the site and shares no cube with those before it stands at the end of the list.
 fn place_lot<'a>(
     lot: LotLine<'a>,
@@ -40,7 +49,7 @@ fn place_lot<'a>(
     ensures { LotPlaced number lot.entry list.old list.new result }
 {
     let cuboid = lot_box(&lot).ok_or(fault_at(Fault::OutOfSite, number, 1))?;
-    if share_any(cuboid, list.lots.as_slice()) {
+    if shares_with_lot(cuboid, list) {
         return Err(fault_at(Fault::SharesCube, number, 1));
     }
     // Stays: the answer is no news, since a list without room was refused before.

@@ -1,10 +1,9 @@
 // Boxes that share a cube.
 ghost use Rattle.std.specs.Prelude.{◌≡◌};
 ghost use Rattle.std.specs.List.{list_any};
-ghost use Rattle.lots.specs.Lists.{boxed, box_of};
+ghost use Rattle.lots.specs.Lists.{box_of};
 ghost use Rattle.lots.specs.Shares.{meets, shares, SharesACube};
 
-use crate::list::Lot;
 use geometry::cuboid::Cuboid;
 use geometry::span::Span;
 
@@ -22,11 +21,11 @@ pub fn share(a: Cuboid, b: Cuboid) -> bool
     meet(a.x, b.x) && meet(a.y, b.y) && meet(a.z, b.z)
 }
 
-// Whether a box shares a cube with that of one of these lots.
-pub fn share_any(a: Cuboid, lots: &[Lot]) -> bool
-    ensures { result ≡ list_any (λ lot. shares (box_of a) (boxed lot)) lots.now }
+// Whether a box shares a cube with one of a list.
+pub fn share_any(a: Cuboid, boxes: &[Cuboid]) -> bool
+    ensures { result ≡ list_any (λ b. shares (box_of a) (box_of b)) boxes.now }
 {
-    lots.iter().any(|lot| share(a, lot.cuboid))
+    boxes.iter().any(|b| share(a, *b))
 }
 
 // What it is to share.
