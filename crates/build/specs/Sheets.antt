@@ -14,6 +14,6 @@ use Rattle.build.specs.Lawful.{Lawful}
 pub record CutsSheet {S : Type 0} (edge : ℕ) (parts : S → Parts) (took : S → Block → S → Type 0) (kept : S → S → Type 0)
     (ls : List Line) (lots : List Scope) (cap : ℕ) (x y : S) (budget : ℕ) (r : Sheet) : Type 0 where
   pub waiting : List Scope
-  pub run : Ran edge parts took kept ls lots waiting cap x y budget r.steps r.ending
+  pub run : Ran edge parts took kept ls lots waiting cap x y budget r.outcome.steps r.outcome.ending
   pub told : Tells waiting r.closed.waiting
-  pub laws : Empty (parts x) → Lawful edge ls lots (closed r.closed ∷ ran budget r.steps r.ending ∷ []) waiting r.closed.steps (parts y)
+  pub laws : Empty (parts x) → Lawful edge ls lots (closed r.closed ∷ ran budget r.outcome.steps r.outcome.ending ∷ []) waiting r.closed.steps (parts y)

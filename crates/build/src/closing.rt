@@ -9,7 +9,7 @@ use geometry::scope::Scope;
 use sinks::sink::Sink;
 use stack::Stack;
 use steps::running::run;
-use steps::stop::Ending;
+use steps::stop::Outcome;
 
 // How many scopes wait on the slots of a stack with that mark, and their volume.
 fn volume_over(slots: &mut [Scope], mark: usize) -> Waiting
@@ -28,17 +28,17 @@ fn volume_over(slots: &mut [Scope], mark: usize) -> Waiting
 // the calls as data; it is no fact of one build that a struct could keep.
 impl<'s> Build<'s> {
     // Makes steps into the sink, at most as many as the budget: how many were made, and how the run ended.
-    pub fn run<S: Sink>(&mut self, sink: &mut S, budget: u32) -> (u32, Ending)
-        ensures ran { Ran S.Sink.edge S.Sink.parts S.Sink.took S.Sink.kept (lines_in self.old) (waiting_in self.old) (waiting_in self.new) (space_of self.old) sink.old sink.new budget result.0 result.1 }
+    pub fn run<S: Sink>(&mut self, sink: &mut S, budget: u32) -> Outcome
+        ensures ran { Ran S.Sink.edge S.Sink.parts S.Sink.took S.Sink.kept (lines_in self.old) (waiting_in self.old) (waiting_in self.new) (space_of self.old) sink.old sink.new budget result.steps result.ending }
         ensures space { space_of self.new ≡ space_of self.old }
         ensures lines { lines_in self.new ≡ lines_in self.old }
-        ensures steps { steps_of self.new ≡ min (steps_of self.old + result.0) (2 ^ 64 - 1) }
+        ensures steps { steps_of self.new ≡ min (steps_of self.old + result.steps) (2 ^ 64 - 1) }
     {
         let mut stack = Stack::resume(self.slots, self.mark);
-        let (n, ending) = run(&self.table, &mut stack, sink, budget);
+        let outcome = run(&self.table, &mut stack, sink, budget);
         self.mark = stack.mark();
-        self.steps = self.steps.saturating_add(n as u64);
-        (n, ending)
+        self.steps = self.steps.saturating_add(outcome.steps as u64);
+        outcome
     }
 
     // How many scopes wait, and their volume; nothing is altered.

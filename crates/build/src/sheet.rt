@@ -8,13 +8,12 @@ use crate::joined::JoinedLots;
 use crate::opening::open;
 use geometry::scope::Scope;
 use sinks::sink::Sink;
-use steps::stop::Ending;
+use steps::stop::Outcome;
 
-// The steps made, how the run ended, and what the build was closed with.
+// What the run answered, and what the build was closed with.
 #[derive(Clone, Copy)]
 pub struct Sheet {
-    pub steps: u32,
-    pub ending: Ending,
+    pub outcome: Outcome,
     pub closed: Closed,
 }
 
@@ -27,11 +26,7 @@ pub fn cut_sheet<S: Sink>(
     ensures { CutsSheet S.Sink.edge S.Sink.parts S.Sink.took S.Sink.kept (joined_lines joined) (passed (length slots.old) (lots_of joined)) (length slots.old) sink.old sink.new budget result }
 {
     let Opened { mut build, slip } = open(joined, slots);
-    let (steps, ending) = build.run(sink, budget);
+    let outcome = build.run(sink, budget);
     let closed = build.close(slip);
-    Sheet {
-        steps,
-        ending,
-        closed,
-    }
+    Sheet { outcome, closed }
 }

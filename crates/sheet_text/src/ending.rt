@@ -9,7 +9,7 @@ use crate::boxes::box_numbers;
 use crate::limits::LINE_BYTES;
 use bounded::inline::InlineVec;
 use sinks::refusal::SinkRefusal;
-use steps::stop::{Ending, Stop};
+use steps::stop::{Ending, Outcome, Stop};
 use texts::line::{Line, LineKind};
 
 // A line with the number of steps.
@@ -35,10 +35,11 @@ fn stop_line(stop: Stop) -> Line<7>
 }
 
 // The last line of a sheet.
-pub(crate) fn ending_line(steps: u32, ending: Ending) -> Line<7>
-    ensures { text_of result ≡ ending_text steps ending }
+pub(crate) fn ending_line(outcome: Outcome) -> Line<7>
+    ensures { text_of result ≡ ending_text outcome.steps outcome.ending }
 {
-    match ending {
+    let steps = outcome.steps;
+    match outcome.ending {
         Ending::Done => steps_line(LineKind::Done, steps),
         Ending::Spent => steps_line(LineKind::Spent, steps),
         Ending::Stopped(stop) => stop_line(stop),
@@ -46,9 +47,9 @@ pub(crate) fn ending_line(steps: u32, ending: Ending) -> Line<7>
 }
 
 // Writes the last line over the start of a buffer; nothing where the buffer is shorter.
-pub fn ending_text(steps: u32, ending: Ending, out: &mut [u8]) -> Result<usize, SinkRefusal>
-    ensures hands { HandsOut (ending_text steps ending) out.old out.new result }
-    ensures fits { length (ending_text steps ending) ≤ LINE_BYTES }
+pub fn ending_text(outcome: Outcome, out: &mut [u8]) -> Result<usize, SinkRefusal>
+    ensures hands { HandsOut (ending_text outcome.steps outcome.ending) out.old out.new result }
+    ensures fits { length (ending_text outcome.steps outcome.ending) ≤ LINE_BYTES }
 {
-    ending_line(steps, ending).text(out)
+    ending_line(outcome).text(out)
 }

@@ -6,7 +6,7 @@ ghost use Rattle.steps.specs.Laying.{SameSlice};
 ghost use Rattle.steps.specs.Acting.{Ran};
 
 use crate::acting::step;
-use crate::stop::Ending;
+use crate::stop::{Ending, Outcome};
 use book::table::RuleTable;
 use geometry::scope::Scope;
 use sinks::sink::Sink;
@@ -18,20 +18,26 @@ pub fn run<S: Sink>(
     stack: &mut Stack<'_, Scope>,
     sink: &mut S,
     budget: u32,
-) -> (u32, Ending)
-    ensures ran { Ran S.Sink.edge S.Sink.parts S.Sink.took S.Sink.kept (lines_of table.now) (entries stack.old) (entries stack.new) (capacity stack.old) sink.old sink.new budget result.0 result.1 }
+) -> Outcome
+    ensures ran { Ran S.Sink.edge S.Sink.parts S.Sink.took S.Sink.kept (lines_of table.now) (entries stack.old) (entries stack.new) (capacity stack.old) sink.old sink.new budget result.steps result.ending }
     ensures slice { SameSlice stack.old stack.new }
 {
     for steps in 0..budget {
         let Some(scope) = stack.top() else {
-            return (steps, Ending::Done);
+            let ending = Ending::Done;
+            return Outcome { steps, ending };
         };
         if let Err(stop) = step(table, stack, sink, scope) {
-            return (steps, Ending::Stopped(stop));
+            let ending = Ending::Stopped(stop);
+            return Outcome { steps, ending };
         }
     }
-    match stack.top() {
-        None => (budget, Ending::Done),
-        Some(_) => (budget, Ending::Spent),
+    let ending = match stack.top() {
+        None => Ending::Done,
+        Some(_) => Ending::Spent,
+    };
+    Outcome {
+        steps: budget,
+        ending,
     }
 }

@@ -43,3 +43,10 @@ pub enum Ending {
     Spent,
     Stopped(Stop),
 }
+
+// What a run answers: the steps made, and how it ended.
+#[derive(Clone, Copy)]
+pub struct Outcome {
+    pub steps: u32,
+    pub ending: Ending,
+}

@@ -7,9 +7,9 @@ use Rattle.build.proofs.calls.carry.Goals as goal
 pub returns-in-Run : goal.returns-in-Run
 returns-in-Run g c = record {
   more = λ lots start es h. (
-    ran c.in-Run.budget c.run.result.0 c.run.result.1,
+    ran c.in-Run.budget c.run.result.steps c.run.result.ending,
     ap Some (sym c.in-Run.is),
-    run c.in-Run.budget c.run.result.0 c.run.result.1 h c.run.ensures.ran c.run.ensures.steps,
+    run c.in-Run.budget c.run.result.steps c.run.result.ending h c.run.ensures.ran c.run.ensures.steps,
   );
   space = c.run.ensures.space;
   lines = c.run.ensures.lines;

@@ -14,15 +14,15 @@ use Rattle.build.proofs.sheet.cut_sheet.Goals as goal
 pub returns : goal.returns
 returns g c =
     let first = c.open-build.result.build in
-    let last = c.run-steps.new.self in
+    let last = c.run-outcome.new.self in
     let joined = c.args.joined in
     let cap = length c.args.slots.now in
     let lots = passed cap (lots_of joined) in
     let x = c.args.sink.now in
-    let y = c.run-steps.new.sink in
+    let y = c.run-outcome.new.sink in
     let budget = c.args.budget in
-    let n = c.run-steps.result.0 in
-    let e = c.run-steps.result.1 in
+    let n = c.run-outcome.result.steps in
+    let e = c.run-outcome.result.ending in
     let r = c.close-closed.result in
     let opens = c.open-build.ensures in
     let edge = g.S.Sink.edge in
@@ -30,7 +30,7 @@ returns g c =
     let took = g.S.Sink.took in
     let kept = g.S.Sink.kept in
     let text = g.S.Sink.text in
-    let runs = c.run-steps.ensures.ran in
+    let runs = c.run-outcome.ensures.ran in
     record {
       waiting = waiting_in last;
       run = subst (λ (ls : List Line). Ran edge parts took kept ls lots (waiting_in last) cap x y budget n e) opens.lines
@@ -41,7 +41,7 @@ returns g c =
           let ok = lines_checked (lines_in first) first.table.full first.table.checked in
           let few = passed_few cap (lots_of joined) (listed_few joined.lots) in
           let at_first = opened_at edge parts took kept text (lines_in first) (space_of first) lots (waiting_in first) (steps_of first) x opens.waits opens.steps in
-          let after = run budget n e at_first runs c.run-steps.ensures.steps in
+          let after = run budget n e at_first runs c.run-outcome.ensures.steps in
           let shut = close r after c.close-closed.ensures.waited c.close-closed.ensures.steps in
           subst (λ (ls : List Line). Lawful edge ls lots (closed r ∷ ran budget n e ∷ []) (waiting_in last) r.steps (parts y)) opens.lines
           (subst (λ (k : ℕ). Lawful edge (lines_in first) lots (closed r ∷ ran budget n e ∷ []) (waiting_in last) k (parts y)) (sym c.close-closed.ensures.steps)
