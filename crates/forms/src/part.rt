@@ -30,6 +30,7 @@ fn kind_of(word: &[u8]) -> Option<Kind>
     }
 }
 
+// Stays: it differs from `expect_axis` in what reads the word and in what can no longer come, which each clause says.
 fn expect_kind(tokens: &mut Tokens) -> Option<Placed<Kind>>
     ensures { TookKind tokens.old tokens.new result }
 {

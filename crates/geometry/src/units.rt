@@ -9,6 +9,7 @@ pub struct Mm(pub u32);
 #[derive(Clone, Copy, PartialEq, Eq)]
 pub struct Weight(pub u32);
 
+// Stays: the operators are written for each kind, so that millimetres and weights add up within themselves alone.
 impl Add<Mm> for Mm {
     type Output = Mm;
 
