@@ -23,9 +23,6 @@ module _ {P : Type 0} (verdict : P → ℕ → List (List ℕ) → Option (Place
     pub same : verdict p (s.before + 1) (lines_left s) ≡ verdict p₀ (s₀.before + 1) (lines_left s₀)
     pub led : (q : P) → LeadsLeft s p q → LeadsLeft s₀ p₀ q
 
-  pub reading_begins : Fits empty → (s : Lines) (p : P) → p ≡ empty → Reading s p s p
-  reading_begins b s p e = record { fits = subst Fits (sym e) b; same = refl; led = λ q h. h }
-
   module _ (s₀ : Lines) (p₀ : P) (s : Lines) (p : P) (r : Reading s₀ p₀ s p) (t : Lines) where
     pub reads_on : (l : Line) (q : P) → NextLine s t (Some l) → Taken verdict Grown Fits l.number l.bytes.now p q (Ok tt) → Reading s₀ p₀ t q
     reads_on l q n h =

@@ -1,5 +1,5 @@
 -- Names in lists, and the last of a list.
-use Rattle.std.proofs.Common.{◌≡◌, ℕ, suc, ◌-◌, ◌<◌, ◌≤◌, Bool, false, ◌||◌, List, [], ◌∷◌, ◌++◌, map, length, get_or, refl, ap, ◌∙◌, arith}
+use Rattle.std.proofs.Common.{◌≡◌, ℕ, suc, ◌-◌, ◌<◌, Bool, ◌||◌, List, [], ◌∷◌, ◌++◌, map, length, get_or, refl, ap, ◌∙◌, arith}
 use Rattle.std.specs.List.{list_any}
 use Rattle.std.specs.Str.{bytes_eq}
 use Rattle.forms.specs.Told.{Name, bytes_of}
@@ -12,10 +12,6 @@ last_is_lem p (y ∷ []) d h = refl
 last_is_lem p (y ∷ z ∷ zs) d h =
     let q : suc (length (z ∷ zs) - 1) ≡ length (y ∷ z ∷ zs) - 1 = omega arith in
     last_is_lem p (z ∷ zs) d (omega arith) ∙ ap (λ i. p (get_or (y ∷ z ∷ zs) i d)) q
-
-pub last_none : {X : Type 0} (p : X → Bool) (xs : List X) → length xs ≤ 0 → last_passes p xs ≡ false
-last_none p [] h = refl
-last_none p (y ∷ ys) h = absurd (omega arith)
 
 pub last_push : {X : Type 0} (p : X → Bool) (xs : List X) (x : X) → last_passes p (xs ++ x ∷ []) ≡ p x
 last_push p [] x = refl

@@ -1,11 +1,11 @@
 -- Reading a whole rule file.
-use Rattle.std.proofs.Common.{◌≡◌, ℕ, true, false, List, Some, None, Ok, Err, Result, sym, refl, ap, ◌∙◌}
+use Rattle.std.proofs.Common.{◌≡◌, ℕ, true, false, List, None, Ok, Err, Result, sym, refl, ap, ◌∙◌}
 use Rattle.std.specs.Result.{result_err, IsOk}
 use Rattle.text.specs.declared.placed.Placed.{Placed}
 use Rattle.grammar.proofs.Accepts.{never}
 use Rattle.judge.specs.declared.faults.Fault.{Fault}
 use Rattle.by_lines.specs.Taken as taken
-use Rattle.by_lines.proofs.Judged.{line_added, line_refused}
+use Rattle.by_lines.proofs.Judged.{line_added}
 use Rattle.rules.proofs.Fits.{fitting_grown, fitting_fits}
 use Rattle.rules.proofs.Left.{left_grown}
 use Rattle.rules.proofs.Orderly.{in_plain_words}
@@ -19,10 +19,6 @@ module _ (n : ℕ) (l : List ℕ) (p q : Book) where
   -- a line without fault is added
   pub taken_line : line_fault (left_by p) n l ≡ None → Grown n l p q → Fitting p → taken.Taken verdict_after Grown Fitting n l p q (Ok tt)
   taken_line e g f = line_added line_fault after left_by Grown left_grown Fitting n l p q e g (fitting_grown n l p q f e g)
-
-  -- a line with a fault is refused
-  pub refused_line : (g : Placed Fault) → line_fault (left_by p) n l ≡ Some g → q ≡ p → taken.Taken verdict_after Grown Fitting n l p q (Err g)
-  refused_line g = line_refused line_fault after left_by Grown left_grown Fitting n l p q g
 
 -- what reading a file promises
 pub record ReadWhole (xs : List ℕ) (q : Book) (r : Result Unit (Placed Fault)) : Type 0 where
