@@ -1,14 +1,13 @@
 -- What a sink tells after blocks that it took one after another.
-use Rattle.std.proofs.Common.{◌≡◌, ℕ, ◌+◌, ◌*◌, ◌/◌, ◌<◌, List, [], ◌∷◌, ◌++◌, length, get_or, take, Ok, Err, sym, refl, ap, ◌∙◌, subst, arith}
-use Rattle.std.proofs.lemmas.List.{take_more, take_all, get_or_read}
+use Rattle.std.proofs.Common.{◌≡◌, ℕ, ◌+◌, ◌*◌, ◌/◌, ◌<◌, List, [], ◌∷◌, ◌++◌, length, get_or, take, Ok, sym, refl, ap, ◌∙◌, subst, arith}
+use Rattle.std.proofs.lemmas.List.{take_more, take_all}
 use Rattle.geometry.specs.declared.block.Block.{Block}
 use Rattle.geometry.specs.declared.cell.Cell.{Cell}
 use Rattle.geometry.specs.Limits.{site}
 use Rattle.geometry.specs.Sums.{sum_of}
 use Rattle.geometry.specs.Boxes.{volume_of, shared_with}
-use Rattle.sinks.specs.Meaning.{Parts, Chain, Takes, Offering, Taken, Taking, PowerOfTwo, over_materials, shared_by}
+use Rattle.sinks.specs.Meaning.{Parts, Chain, Taken, Taking, PowerOfTwo, over_materials, shared_by}
 use Rattle.sinks.specs.Laws.{BlocksTold, CellsAddUp, SinksAgree, Offers, inner}
-use Rattle.sinks.specs.declared.offers.Refused.{Refused}
 use Rattle.sinks.proofs.Materials.{over_at, over_none}
 use Rattle.sinks.proofs.Grids.{over_blocks, over_same_cells, shared_finer, shared_whole, divides}
 
@@ -60,27 +59,13 @@ sinks_agree fine parts coarse others n e s s' t t' bs none one nothing other =
           ∙ over_same_cells n (λ x. shared_by fine (inner n d x) bs) (λ x. (parts s').cell (inner n d x)) (λ x. sym (small (inner n d x)));
     }
 
--- what the blocks taken so far come to when one more is taken, when one is refused, and at the end
+-- the blocks taken so far and one more
 pub offers_more : {S : Type 0} (R : S → Block → S → Type 0) (s t u : S) (blocks : List Block) (n : ℕ) (b : Block) → n < length blocks → b ≡ get_or blocks n b
     → Chain R s (take n blocks) t → R t b u → Chain R s (take (n + 1) blocks) u
 offers_more {S} R s t u blocks n b h is chain r =
     let P : List Block → Type 0 = λ bs. Chain R s bs u in
     let Q : Block → Type 0 = λ x. R t x u in
     subst P (sym (take_more blocks n b h)) (chain_push R s t u (take n blocks) (get_or blocks n b) chain (subst Q is r))
-
-pub offers_refused : {S : Type 0} (edge : ℕ) (parts : S → Parts) (took : S → Block → S → Type 0) (kept : S → S → Type 0) (s t u : S) (blocks : List Block) (n : ℕ) (b : Block) (e : Refused)
-    → n < length blocks → b ≡ get_or blocks n b → Chain (Taking edge parts took) s (take n blocks) t
-    → e.taken ≡ n → Offering edge parts took kept t u b (Err e.refusal) → Offers edge parts took kept s u blocks (Err e)
-offers_refused {S} edge parts took kept s t u blocks n b e h is chain at o =
-    let R : Block → Type 0 = λ x. Takes edge (parts t) (parts u) x (Err e.refusal) in
-    let C : ℕ → Type 0 = λ k. Chain (Taking edge parts took) s (take k blocks) t in
-    let B : ℕ → Type 0 = λ k. b ≡ get_or blocks k b in
-    record {
-      within = omega arith;
-      through = t;
-      chain = subst C (sym at) chain;
-      ending = (omega arith, o.state, λ d. subst R (get_or_read blocks e.taken b (omega arith) (subst B (sym at) is) d) o.takes);
-    }
 
 -- where nothing was refused, all blocks were taken
 pub offers_whole : {S : Type 0} (edge : ℕ) (parts : S → Parts) (took : S → Block → S → Type 0) (kept : S → S → Type 0) (s t : S) (blocks : List Block)

@@ -14,9 +14,3 @@ put-requires-2 g c =
     let a = tallies_text c.args.self.now.tallies.now in
     let b = lent_text c.args.self.now.last in
     g.W.Out.laws.rest c.args.out.now c.put.new.out a b (a ++ b) (omega (arith, length-append a b)) c.requires c.put.ensures
-
-pub returns : goal.returns
-returns g c =
-    let a = tallies_text c.args.self.now.tallies.now in
-    let b = lent_text c.args.self.now.last in
-    g.W.Out.laws.joined c.args.out.now c.put.new.out c.put-2.new.out a b c.put.ensures c.put-2.ensures
