@@ -2,15 +2,16 @@
 use Rattle.rules.specs.declared.rule_book.Book.{Book}
 use Rattle.book.specs.Checks.{guards_of as line_guards}
 use Rattle.rows.specs.Rows.{parts_of}
-use Rattle.std.proofs.Common.{◌≡◌, ℕ, zero, suc, ◌+◌, ◌<◌, true, cond, ◌&&◌, eqb, ltb, List, [], ◌∷◌, ◌++◌, map, length, get_or, take, drop, set, Some, None, sym, refl, ap, ◌∙◌, subst, ⊎_elim, arith}
+use Rattle.std.proofs.Common.{◌≡◌, ℕ, suc, ◌+◌, ◌<◌, true, cond, ◌&&◌, eqb, ltb, List, [], ◌∷◌, ◌++◌, map, length, get_or, take, drop, set, Some, None, sym, refl, ap, ◌∙◌, subst, ⊎_elim, arith}
 use Rattle.std.specs.List.{AllByRecursion}
 use Rattle.std.proofs.lemmas.List.{get_or_default, get_or-set_same, get_or-set_other, length-map, take_more, take_more_set, map_push, drop_all}
 use Rattle.std.proofs.lemmas.Bool.{eqb-true, eq-eqb, lt-ltb, and_from, cases_lt, cases_eq}
 use Rattle.geometry.specs.Limits.{most_lines}
-use Rattle.book.specs.Checks.{ok_known, ok_lone, part_rules, ok_body, ok_from, last_free, ok_lines}
+use Rattle.book.specs.Checks.{ok_known, ok_lone, part_rules, ok_body, ok_from, ok_lines}
 use Rattle.book.specs.declared.body.Body.{Body}
 use Rattle.book.specs.declared.body.Body.TheVariants.{Make, Use, Repeat, Split}
 use Rattle.book.specs.declared.line.Line.{Line}
+use Rattle.book.proofs.Scans.{last_is_lem}
 use Rattle.forms.specs.Told.{Name, bytes_of, uses_of, used_by}
 use Rattle.forms.specs.declared.rule.RuleLine.{RuleLine}
 use Rattle.book_check.specs.declared.kind.Kind.{Kind}
@@ -119,14 +120,6 @@ last_passes_lem ps a ls e o d =
     ap length (o.own 63 n r d p).guards ∙ free_at_end (get_or ps.names 63 n) (drop 64 ps.names) (get_or ps.lines 63 r) (neither _ _ (line_clear ps a 63 n r p)).0 z)
     (λ p. (o.others 63 d p (omega arith)).free)
     (cases_lt 63 (length ps.lines))
-
--- the last of n + 1 lines
-last_is_lem : (ls : List Line) (n : ℕ) (d : Line) → length ls ≡ n + 1 → last_free ls ≡ eqb (length (line_guards (get_or ls n d))) 0
-last_is_lem [] n d e = absurd (omega arith)
-last_is_lem (l ∷ []) zero d e = refl
-last_is_lem (l ∷ []) (suc n) d e = absurd (omega arith)
-last_is_lem (l ∷ m ∷ ls) zero d e = absurd (omega arith)
-last_is_lem (l ∷ m ∷ ls) (suc n) d e = last_is_lem (m ∷ ls) n d (omega arith)
 
 -- the lines of an accepted book pass
 pub lines_pass : (ps : Book) → Accepted ps → (ls : List Line) → length ls ≡ most_lines → Resolved ps ls → ok_lines ls ≡ true
