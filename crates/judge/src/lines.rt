@@ -1,5 +1,6 @@
 // The judgement of a line by itself.
 ghost use Rattle.std.specs.Prelude.{◌≡◌, Some, None};
+ghost use Rattle.std.specs.Result.{result_err};
 ghost use Rattle.text.specs.Tokens.{tokens_of};
 ghost use Rattle.judge.specs.Files.{column_of};
 ghost use Rattle.judge.specs.Judged.{found, judged, Least, Acceptable};
@@ -23,32 +24,28 @@ pub fn fault_at(fault: Fault, line: usize, column: usize) -> Placed<Fault>
     }
 }
 
+// A fault at a column of a line refuses it.
+pub fn refuse(at: Option<usize>, fault: Fault, line: usize) -> Result<(), Placed<Fault>>
+    ensures { result_err result ≡ found fault line at }
+{
+    match at {
+        Some(column) => Err(fault_at(fault, line, column)),
+        None => Ok(()),
+    }
+}
+
 // Of what is wrong with a line by itself the fault with the least number, at its leftmost place.
-// Stays: as a chain of `or_else` it needs a closure for each test and a long proof, and is no plainer.
-fn first_fault(file: FileKind, line: Line) -> Option<Placed<Fault>>
-    ensures value { result ≡ judged file line.entry.number line.entry.bytes.now }
-    ensures least { Least file line.entry.number line.entry.bytes.now result }
+pub fn first_fault(file: FileKind, line: Line) -> Result<(), Placed<Fault>>
+    ensures value { result_err result ≡ judged file line.entry.number line.entry.bytes.now }
+    ensures least { Least file line.entry.number line.entry.bytes.now (result_err result) }
 {
     let number = line.number;
-    if let Some(column) = find_too_long(line.bytes) {
-        return Some(fault_at(Fault::LineTooLong, number, column));
-    }
-    if let Some(column) = find_not_allowed(line.bytes) {
-        return Some(fault_at(Fault::ByteNotAllowed, number, column));
-    }
-    if let Some(column) = find_unbalanced(line.bytes) {
-        return Some(fault_at(Fault::Brackets, number, column));
-    }
-    if let Some(column) = find_misplaced(file, line) {
-        return Some(fault_at(Fault::Misplaced, number, column));
-    }
-    if let Some(column) = find_bad_number(file, line) {
-        return Some(fault_at(Fault::BadNumber, number, column));
-    }
-    if let Some(column) = find_bad_name(file, line) {
-        return Some(fault_at(Fault::BadName, number, column));
-    }
-    None
+    refuse(find_too_long(line.bytes), Fault::LineTooLong, number)?;
+    refuse(find_not_allowed(line.bytes), Fault::ByteNotAllowed, number)?;
+    refuse(find_unbalanced(line.bytes), Fault::Brackets, number)?;
+    refuse(find_misplaced(file, line), Fault::Misplaced, number)?;
+    refuse(find_bad_number(file, line), Fault::BadNumber, number)?;
+    refuse(find_bad_name(file, line), Fault::BadName, number)
 }
 
 // The judgement of a line by itself: the fault with the least number at its leftmost place, or nothing just if the line is
@@ -58,7 +55,7 @@ pub fn judge_line(file: FileKind, line: Line) -> Option<Placed<Fault>>
     ensures least { Least file line.entry.number line.entry.bytes.now result }
     ensures accepts { (result ≡ None → Acceptable file line.entry.bytes.now) × (Acceptable file line.entry.bytes.now → result ≡ None) }
 {
-    first_fault(file, line)
+    first_fault(file, line).err()
 }
 
 // The column of the first token of a line.
