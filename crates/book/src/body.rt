@@ -12,6 +12,7 @@ pub enum Body {
     // equal tiles along the axis, each with this rule
     Repeat(Axis, Tile, u8),
     // parts along the axis, the k-th with the k-th of these rules
-    // Stays: there are as many rules as parts, so a list with a length of its own could only disagree with the parts.
+    // Stays: a row is cut by the parts alone and told by the rules alone, so the two are not one list; and a list of rules
+    // with a length of its own could disagree with the parts.
     Split(Axis, Parts, [u8; 16]),
 }

@@ -6,11 +6,8 @@ ghost use Rattle.book.specs.Lines.{lines_of};
 use crate::body::Body;
 use crate::line::Line;
 use crate::table::{PLACES, RuleTable};
-use geometry::limits::MOST_LINES;
+use geometry::limits::{MATERIALS, MOST_LINES};
 use rows::parts::Parts;
-
-// The materials are numbered below this.
-const MATERIALS: u8 = 16;
 
 // A rule is told by the index of a line.
 fn is_known(rule: u8) -> bool

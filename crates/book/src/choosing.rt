@@ -14,7 +14,7 @@ fn holds(guard: Guard, cuboid: Cuboid) -> bool
     ensures { result ≡ guard_holds cuboid guard }
 {
     let size = cuboid.on(guard.axis).size;
-    guard.low.0 <= size.0 && size.0 <= guard.high.0
+    (guard.low.0..=guard.high.0).contains(&size.0)
 }
 
 fn all_hold(guards: &[Guard], cuboid: Cuboid) -> bool

@@ -6,7 +6,7 @@ use crate::line::Line;
 use geometry::limits::MOST_LINES;
 
 // How many lines a table has.
-pub(crate) const PLACES: usize = MOST_LINES as usize;
+pub const PLACES: usize = MOST_LINES as usize;
 
 #[derive(Clone, Copy)]
 pub struct RuleTable {

@@ -11,7 +11,8 @@ pub struct InlineVec<T, const N: usize> {
     ghost full: { length items ≡ N },
 }
 
-// Stays: Clone is not derived over a ghost field.
+// Stays: Clone is not derived over a ghost field where T may be any copied type; and a model, by which a clause would see
+// the list itself, asks a copied struct to give its fields back, which the blanks of unused places forbid.
 impl<T: Copy, const N: usize> Clone for InlineVec<T, N> {
     ghost is_clone = { λ x y. y ≡ x };
 

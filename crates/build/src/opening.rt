@@ -10,7 +10,7 @@ use geometry::scope::Scope;
 use stack::Stack;
 
 // The number under which open refuses a stack with fewer entries than lots.
-// Stays: a refusal is told by this number; that there is one is the question `fit`, and nothing waits then.
+// Stays: opening cannot fail, so its refusal is no error but a question, `fit`, and this number by which it is told.
 pub const FEW_ENTRIES: u32 = 52;
 
 impl JoinedLots {

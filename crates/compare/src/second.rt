@@ -15,7 +15,7 @@ pub struct Refused {
 pub type Told = Result<Vec<u64>, Refused>;
 
 // A refusal that names no part.
-fn whole(number: u32) -> Refused {
+fn of_no_part(number: u32) -> Refused {
     Refused { number, part: 0 }
 }
 
@@ -61,7 +61,7 @@ fn next_served(places: &mut [Place]) -> Option<&mut Place> {
 // Hands out what is left, one millimetre to a part.
 fn hand_out(places: &mut [Place], left: u64) -> Result<(), Refused> {
     for _ in 0..left {
-        let place = next_served(places).ok_or(whole(36))?;
+        let place = next_served(places).ok_or(of_no_part(36))?;
         place.length = place.length.saturating_add(1);
         place.waits = None;
     }
@@ -89,9 +89,9 @@ fn cut(places: &mut [Place], length: u64) -> Result<(), Refused> {
     let weights = places
         .iter()
         .fold(0u64, |sum, place| sum.saturating_add(place.weight()));
-    let rest = length.checked_sub(taken).ok_or(whole(31))?;
+    let rest = length.checked_sub(taken).ok_or(of_no_part(31))?;
     if weights == 0 && rest > 0 {
-        return Err(whole(32));
+        return Err(of_no_part(32));
     }
     share(places, rest, weights)?;
     match (1u32..)
@@ -118,7 +118,7 @@ pub fn second_repeat(alloc: Global, length: u64, tile: u64) -> Result<Told, Allo
         .find(|n| (2 * *n - 1).saturating_mul(tile) <= length.saturating_mul(2))
         .unwrap_or(1);
     if count > 64 {
-        return Ok(Err(whole(34)));
+        return Ok(Err(of_no_part(34)));
     }
     let sizes = [Size::Float(Weight(1)); 64];
     second_split(alloc, length, &sizes[..count as usize])

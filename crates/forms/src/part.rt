@@ -30,7 +30,7 @@ fn kind_of(word: &[u8]) -> Option<Kind>
     }
 }
 
-// Stays: it differs from `expect_axis` in what reads the word and in what can no longer come, which each clause says.
+// Stays: `expect_axis` is much the same, but says of None that no axis can follow, where this says that no part can.
 fn expect_kind(tokens: &mut Tokens) -> Option<Placed<Kind>>
     ensures { TookKind tokens.old tokens.new result }
 {
@@ -40,6 +40,7 @@ fn expect_kind(tokens: &mut Tokens) -> Option<Placed<Kind>>
 }
 
 // The least and the most that a part of this kind may ask for.
+// Stays: a pair that is taken apart at once; and rows asks it of a size, where here no number is read yet.
 fn range_of(kind: Kind) -> (u32, u32)
     ensures { (result.0 ≡ low_of_kind kind) × (result.1 ≡ high_of_kind kind) }
 {

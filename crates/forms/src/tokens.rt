@@ -11,7 +11,8 @@ use text::takes::take;
 use text::tokens::{Token, Tokens};
 
 // The opening bracket of a first part.
-// Stays: this and the next two differ in what can no longer come where None is answered, which each one's clause says.
+// Stays: this and the next two say more than `take` where they answer None: what the form cannot go on with, which is not
+// the same for the three.
 pub(crate) fn expect_open(tokens: &mut Tokens) -> Option<Placed<()>>
     ensures { TookOpen tokens.old tokens.new result }
 {

@@ -11,8 +11,7 @@ use text::numbers::number_in;
 use text::tokens::Token;
 use text::words::is_axis;
 
-// The greatest weight.
-pub const WEIGHT_LIMIT: u32 = 1000;
+pub use geometry::limits::MOST_WEIGHT as WEIGHT_LIMIT;
 
 fn on_open(state: State) -> Option<State>
     ensures { wanted result ≡ step (expects state) opening }

@@ -13,13 +13,12 @@ use crate::size::Size;
 use crate::tile::Tile;
 use bounded::full::Full;
 use bounded::inline::InlineVec;
+pub use geometry::limits::MOST_WEIGHT;
 use geometry::limits::{LEAST, SITE};
 use geometry::units::{Mm, Weight};
 
-// The most parts of a split, and the greatest weight.
+// The most parts of a split.
 pub const MOST_PARTS: usize = 16;
-
-pub const MOST_WEIGHT: u32 = 1_000;
 
 // The least and the most that a part of this kind may ask for.
 fn range(size: Size) -> (u32, u32)
@@ -77,7 +76,7 @@ impl Parts {
     }
 
     // The parts that ask for these sizes; None where one is out of range or there are more than 16.
-    // Stays: a maker answers None where there is no such value.
+    // Stays: a maker answers None where there is no such value; nobody asks which of the two it was.
     pub fn from_sizes(wanted: &[Size]) -> Option<Parts>
         ensures { MatchOption result (InRange wanted.now → length wanted.now ≤ 16 → ⊥) (λ p. sizes (parts_of p) ≡ wanted.now) }
     {

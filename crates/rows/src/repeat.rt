@@ -7,7 +7,7 @@ ghost use Rattle.rows.specs.Laws.{Lawful};
 use crate::refusal::RowRefusal;
 use crate::row::{Row, Segment};
 use crate::shares::{extra, share};
-use crate::split::thick;
+use crate::split::long_enough;
 use crate::tile::Tile;
 use bounded::inline::InlineVec;
 use geometry::units::{Mm, Weight};
@@ -52,7 +52,7 @@ fn tile_row(extent: Mm, n: u32) -> Result<Row, RowRefusal>
 {
     let mut segments = InlineVec::new(Segment { length: Mm(0) });
     for i in 0..n {
-        let length = thick(tile_length(extent, n, i), i as usize)?;
+        let length = long_enough(tile_length(extent, n, i), i as usize)?;
         let _ = segments.push(Segment { length });
     }
     Ok(Row { segments })

@@ -18,7 +18,7 @@ use geometry::units::Mm;
 use std::slice::Iter;
 
 // The length of part i, counted from 0; refused where it is too short.
-pub(crate) fn thick(length: Mm, i: usize) -> Result<Mm, RowRefusal>
+pub(crate) fn long_enough(length: Mm, i: usize) -> Result<Mm, RowRefusal>
     requires { i < 64 }
     ensures { MatchResult result (λ m. (m ≡ length) × (least ≤ m.0)) (λ e. (length.0 < least) × (e ≡ RowRefusal.Vanishes (i + 1))) }
 {
@@ -45,7 +45,7 @@ fn fill(parts: &Parts, lengths: &[Mm]) -> Result<Row, RowRefusal>
     for (i, part) in parts.as_slice().iter().enumerate() {
         let length = match part.size {
             Size::Fix(length) => length,
-            Size::Float(_) => thick(next_length(&mut floating), i)?,
+            Size::Float(_) => long_enough(next_length(&mut floating), i)?,
         };
         let _ = segments.push(Segment { length });
     }

@@ -1,4 +1,5 @@
-// What a stop carries. Stays: a stop is told by its number and its part, 0 if none, as the rules of the project say.
+// What a stop carries.
+// Stays: a stop is told by its number and its part, 0 if none, as the rules of the project say.
 ghost use Rattle.std.specs.Prelude.{◌≡◌};
 ghost use Rattle.steps.specs.Stops.{reason_number, reason_part, reason_along};
 
