@@ -11,6 +11,8 @@ use crate::tally::Tallies;
 use geometry::block::Block;
 use geometry::cell::Cell;
 
+// Stays: it is no stack, since its blocks are told in the order of taking and a stack's entries from the top down, and
+// a stack's questions would take the list for writing.
 #[derive(Drop)]
 pub struct BlockList<'s> {
     // Stays: a run allocates nothing, so the caller lends the memory.

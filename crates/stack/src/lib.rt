@@ -1,5 +1,6 @@
 // A stack over a slice that the caller lends. It passes its slice whole to the functions below, which read and write it.
-// Stays: a question takes the stack for writing, and alters nothing, as the slice is passed on.
+// Stays: a question takes the stack for writing, and alters nothing, as the slice is passed on; and the slots lie beside
+// their mark in place of a list that grows, since the memory is the caller's, a rule of the project.
 #![tactic(auto)]
 
 ghost use Rattle.std.specs.Prelude.{◌≡◌, ℕ, ◌-◌, ◌<◌, min, [], length};

@@ -1,5 +1,5 @@
 // Taking blocks into tallies, and asking them.
-ghost use Rattle.std.specs.Prelude.{◌≡◌, ℕ, ◌+◌, ◌<◌, ◌≤◌, if◌then◌else◌, nat_eq};
+ghost use Rattle.std.specs.Prelude.{◌≡◌, ℕ, ◌+◌, ◌<◌, ◌≤◌, if◌then◌else◌, nat_eq, MatchOption};
 ghost use Rattle.geometry.specs.Boxes.{volume_of};
 ghost use Rattle.sinks.specs.Meaning.{Judged, Tells, materials, limit, over_materials};
 ghost use Rattle.sinks.specs.Tallied.{number_of, count_of, volume_held, drawn_of, Noted, Receives};
@@ -33,21 +33,11 @@ impl MaterialSums {
         self.all += by;
     }
 
-    // The number of a material; 0 where there is no such material.
-    fn at(&self, m: usize) -> u64
-        ensures { result ≡ number_of self.now m }
+    // The number of a material; none where there is no such material.
+    fn get(&self, m: usize) -> Option<u64>
+        ensures { MatchOption result (materials ≤ m) (λ n. (m < materials) × (n ≡ number_of self.now m)) }
     {
-        self.each.get(m).copied().unwrap_or(0)
-    }
-
-    // The same, refused where there is no such material.
-    fn told(&self, material: u8) -> Result<u64, SinkRefusal>
-        ensures { Tells (material < materials) (number_of self.now material) result }
-    {
-        self.each
-            .get(material as usize)
-            .copied()
-            .ok_or(SinkRefusal::NoSuch)
+        self.each.get(m).copied()
     }
 }
 
@@ -101,13 +91,15 @@ impl Tallies {
     pub fn count_of(&self, material: u8) -> Result<u64, SinkRefusal>
         ensures { Tells (material < materials) (count_of self.now material) result }
     {
-        self.counts.told(material)
+        let count = self.counts.get(material as usize);
+        count.ok_or(SinkRefusal::NoSuch)
     }
 
     pub fn volume_of(&self, material: u8) -> Result<u64, SinkRefusal>
         ensures { Tells (material < materials) (volume_held self.now material) result }
     {
-        self.volumes.told(material)
+        let volume = self.volumes.get(material as usize);
+        volume.ok_or(SinkRefusal::NoSuch)
     }
 
     // All blocks, and all volumes.
@@ -128,7 +120,9 @@ impl Tallies {
         ensures count { result.0 ≡ count_of self.now material }
         ensures volume { result.1 ≡ volume_held self.now material }
     {
-        (self.counts.at(material), self.volumes.at(material))
+        let count = self.counts.get(material);
+        let volume = self.volumes.get(material);
+        (count.unwrap_or(0), volume.unwrap_or(0))
     }
 
     // All blocks but the void ones.
@@ -137,6 +131,6 @@ impl Tallies {
         ensures value { result ≡ drawn_of self.now }
         ensures bound { result ≤ limit }
     {
-        self.counts.all - self.counts.at(0)
+        self.counts.all - self.counts.get(0).unwrap_or(0)
     }
 }
