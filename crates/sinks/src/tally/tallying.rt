@@ -7,8 +7,7 @@ ghost use Rattle.sinks.specs.Tallied.{number_of, count_of, volume_held, drawn_of
 use super::{MaterialSums, Tallies};
 use crate::refusal::SinkRefusal;
 use geometry::block::Block;
-
-pub const MATERIALS: u8 = 16;
+pub use geometry::limits::MATERIALS;
 
 // The most cubic millimetres that a sink receives.
 pub const LIMIT: u64 = 4_398_046_511_104;
