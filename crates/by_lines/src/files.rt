@@ -26,8 +26,10 @@ pub trait Grow {
     fn clear(&mut self)
         ensures { self.new ≡ empty };
 
+    // What is empty fits.
     ghost begins: { fits empty };
 
+    // Where no line is left there is no fault.
     ghost ends: { (p : Self) (n : ℕ) → verdict p n [] ≡ None };
 }
 

@@ -16,7 +16,7 @@ use forms::lots::read_lot;
 use geometry::cuboid::Cuboid;
 use grammar::state::FileKind;
 use judge::faults::Fault;
-use judge::lines::{fault_at, first_column, judge_line};
+use judge::lines::{fault_at, first_column, first_fault, refuse};
 use text::lines::Line;
 use text::placed::Placed;
 use text::tokens::is_blank;
@@ -90,6 +90,7 @@ impl<'a> Grow for LotList<'a> {
 
     ghost empty = { no_lots };
 
+    // Empties the list; the memory stays.
     fn clear(&mut self) {
         self.lots.clear();
     }
@@ -100,13 +101,10 @@ impl<'a> Grow for LotList<'a> {
 }
 
 impl<'a> TakeLines<'a> for LotList<'a> {
+    // Judges a line after those that the list holds, and adds its lot.
     fn take_line(&mut self, line: Line<'a>) -> Result<(), Placed<Fault>> {
-        if let Some(refusal) = judge_line(FileKind::Lots, line) {
-            return Err(refusal);
-        }
-        if let Some(column) = find_too_many(line, self) {
-            return Err(fault_at(Fault::TooMany, line.number, column));
-        }
+        first_fault(FileKind::Lots, line)?;
+        refuse(find_too_many(line, self), Fault::TooMany, line.number)?;
         if is_blank(line.bytes) {
             return Ok(());
         }

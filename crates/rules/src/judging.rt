@@ -1,5 +1,6 @@
 // The judgement of a line of a rule file after the lines before it, which a book holds.
 ghost use Rattle.std.specs.Prelude.{◌≡◌, [], ◌∷◌};
+ghost use Rattle.std.specs.Result.{result_err};
 ghost use Rattle.text.specs.Tokens.{tokens_of};
 ghost use Rattle.grammar.specs.Wants.{form, first_at};
 ghost use Rattle.grammar.specs.declared.state.FileKind.TheVariants.{Rules};
@@ -15,7 +16,7 @@ use geometry::limits::MOST_LINES;
 use grammar::passes::first_at;
 use grammar::state::FileKind;
 use judge::faults::Fault;
-use judge::lines::{fault_at, first_column, judge_line};
+use judge::lines::{first_column, first_fault, refuse};
 use rows::making::MOST_PARTS;
 use text::lines::Line;
 use text::placed::Placed;
@@ -79,21 +80,12 @@ fn find_too_many(line: Line, book: &Book) -> Option<usize>
 }
 
 // Of what is wrong with a line after those that the book holds the fault with the least number, at its leftmost place.
-pub(crate) fn line_fault(line: Line, book: &Book) -> Option<Placed<Fault>>
-    ensures { result ≡ line_fault (left_by book.now) line.entry.number line.entry.bytes.now }
+pub(crate) fn line_fault(line: Line, book: &Book) -> Result<(), Placed<Fault>>
+    ensures { result_err result ≡ line_fault (left_by book.now) line.entry.number line.entry.bytes.now }
 {
     let number = line.number;
-    if let Some(refusal) = judge_line(FileKind::Rules, line) {
-        return Some(refusal);
-    }
-    if let Some(column) = find_redeclared(line, book) {
-        return Some(fault_at(Fault::BadName, number, column));
-    }
-    if let Some(column) = find_reused(line, book) {
-        return Some(fault_at(Fault::RuleNameUsed, number, column));
-    }
-    if let Some(column) = find_too_many(line, book) {
-        return Some(fault_at(Fault::TooMany, number, column));
-    }
-    None
+    first_fault(FileKind::Rules, line)?;
+    refuse(find_redeclared(line, book), Fault::BadName, number)?;
+    refuse(find_reused(line, book), Fault::RuleNameUsed, number)?;
+    refuse(find_too_many(line, book), Fault::TooMany, number)
 }

@@ -47,7 +47,7 @@ pub(crate) fn last_guarded(lines: &[RuleLine]) -> bool
     }
 }
 
-// A material that is declared though it was declared before; void counts as declared.
+// Whether a token declares a material that was declared before; void counts as declared.
 #[tactic(auto, using(crate::proofs::Lists::among_any))]
 pub(crate) fn is_redeclared(state: State, t: Token, declared: &[Placed<&[u8]>]) -> bool
     ensures { result ≡ redeclared (map bytes_of declared.now) (expects state) (told t.entry) }
@@ -60,7 +60,7 @@ pub(crate) fn is_redeclared(state: State, t: Token, declared: &[Placed<&[u8]>]) 
     }
 }
 
-// A rule line's name that was used before, unless the nearest earlier rule line has it and a guard.
+// Whether a token is a rule line's name that was used before, unless the nearest earlier rule line has it and a guard.
 #[tactic(auto, using(crate::proofs::Lists::among_any))]
 pub(crate) fn is_reused(state: State, t: Token, names: &[Placed<&[u8]>], guarded: bool) -> bool
     ensures { result ≡ reused (map bytes_of names.now) guarded (expects state) (told t.entry) }
@@ -73,7 +73,7 @@ pub(crate) fn is_reused(state: State, t: Token, names: &[Placed<&[u8]>], guarded
     }
 }
 
-// A word that names the material that its line declares.
+// Whether a word names the material that its line declares.
 pub(crate) fn declares(state: State, _t: Token) -> bool
     ensures { result ≡ looks false false true false (expects state) (told _t.entry) }
 {
@@ -83,14 +83,14 @@ pub(crate) fn declares(state: State, _t: Token) -> bool
     )
 }
 
-// A word that names the rule line itself.
+// Whether a word names the rule line itself.
 pub(crate) fn names_itself(state: State, _t: Token) -> bool
     ensures { result ≡ looks false false false true (expects state) (told _t.entry) }
 {
     matches!(state, State::RuleName | State::BodyName(Naming::Own))
 }
 
-// The opening bracket of a part.
+// Whether a token is the opening bracket of a part.
 pub(crate) fn opens_part(state: State, t: Token) -> bool
     ensures { result ≡ looks false true false false (expects state) (told t.entry) }
 {

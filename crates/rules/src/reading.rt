@@ -19,7 +19,7 @@ use text::placed::Placed;
 use text::tokens::is_blank;
 
 // The material that a line declares, at the end of the book; None where it declares none or there is no room.
-// Stays: nobody asks which of the two it was, so that this and the next two answer an Option.
+// Stays: nobody asks which of the two it was, so that this, add_rule and add_form answer an Option.
 fn add_material<'a>(line: Line<'a>, book: &mut Book<'a>) -> Option<()>
     ensures { MaterialTaken line.entry.number line.entry.bytes.now book.old book.new result }
 {
@@ -94,9 +94,7 @@ impl<'a> Grow for Book<'a> {
 impl<'a> TakeLines<'a> for Book<'a> {
     // Judges a line after those that the book holds, and adds what it says.
     fn take_line(&mut self, line: Line<'a>) -> Result<(), Placed<Fault>> {
-        if let Some(refusal) = line_fault(line, self) {
-            return Err(refusal);
-        }
+        line_fault(line, self)?;
         if !is_blank(line.bytes) {
             // Stays: the answer is no news, since a line that is judged to be in order is added.
             let _ = add_form(line, self);

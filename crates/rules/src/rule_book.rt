@@ -5,7 +5,8 @@ use forms::lists::{RuleNames, Uses};
 use forms::rule::RuleLine;
 use text::placed::Placed;
 
-// Stays: the names of the rule lines are a list of their own, since they are handed out as one slice to look for a name in.
+// Stays: the names of the rule lines are a list of their own, since the public `names` answers them as one slice, and a slice
+// of names cannot be had from a list of lines with their names.
 #[derive(Drop)]
 pub struct Book<'a> {
     pub(crate) materials: BoundedVec<Placed<&'a [u8]>, 15>,
