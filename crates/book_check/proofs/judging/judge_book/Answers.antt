@@ -5,8 +5,5 @@ use Rattle.book_check.proofs.judging.judge_book.Goals as goal
 pub returns : goal.returns
 returns c =
     let ps = c.args.book.now in
-    record {
-      value = c.first_fault.ensures;
-      first = is_first ps c.first_fault.result c.first_fault.ensures;
-      accepts = λ o. c.first_fault.ensures ∙ in_order_accepted ps o;
-    }
+    let e = c.err.ensures.value ∙ c.first_fault.ensures in
+    record { value = e; first = is_first ps c.err.result e; accepts = λ o. e ∙ in_order_accepted ps o }
