@@ -32,6 +32,7 @@ fn targets(book: &Book, kind: Kind, used: &[Placed<&[u8]>]) -> [u8; 16]
     ensures { take (length used.now) result ≡ map target_of (meanings book.now kind used.now) }
 {
     let mut numbers = [0; 16];
+    // Stays: written by index, since after a loop over `iter_mut` under `zip` nothing is known of what it wrote.
     for (i, name) in used.iter().enumerate() {
         numbers[i] = target_of(meaning(book, kind, name.value));
     }
@@ -97,6 +98,7 @@ fn resolve(book: &Book) -> [Line; 64]
     let names = book.names();
     let rules = book.lines();
     let mut lines = [filler(); 64];
+    // Stays: written by index, since after a loop over `iter_mut` under `zip` nothing is known of what it wrote.
     for (i, (name, rule)) in names.iter().zip(rules).enumerate() {
         lines[i] = line_of(book, name, rule);
     }
