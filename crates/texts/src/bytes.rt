@@ -12,7 +12,7 @@ fn put_bytes(out: &mut [u8], text: &[u8]) -> usize
     ensures value { result ≡ length text.now }
 {
     let n = text.len();
-    (&mut out[0..n]).copy_from_slice(text);
+    out[..n].copy_from_slice(text);
     n
 }
 
@@ -34,5 +34,5 @@ pub(crate) fn hand_out(from: &mut [u8], n: usize, to: &mut [u8]) -> Result<usize
     if to.len() < n {
         return Err(SinkRefusal::ShortBuffer);
     }
-    Ok(put_bytes(to, &from[0..n]))
+    Ok(put_bytes(to, &from[..n]))
 }
