@@ -4,7 +4,7 @@
 ghost use Rattle.std.specs.Prelude.{◌≡◌, IfOk, MatchOption, OnOk};
 ghost use Rattle.draw.specs.Entries.{NoBlock, IsBlock, AreBlocks, TakesAll};
 
-use anyhow::anyhow;
+use anyhow::{Context, anyhow};
 use geometry::block::Block;
 use geometry::cuboid::Cuboid;
 use geometry::triple::Triple;
@@ -84,9 +84,7 @@ fn blocks_of(heap: Global, entries: &[Entry]) -> anyhow::Result<Vec<Block>>
 {
     let mut blocks = Vec::new(heap);
     for entry in entries {
-        let Some(block) = block_of(entry) else {
-            return Err(anyhow!("an entry reaches out of the site"));
-        };
+        let block = block_of(entry).context("an entry reaches out of the site")?;
         blocks.push(block)?;
     }
     Ok(blocks)
@@ -111,7 +109,7 @@ fn keep(heap: Global, blocks: &[Block]) -> anyhow::Result<()> {
 // Prints the first n bytes of a text.
 fn print(rt: &HostRuntime, text: &[u8], n: Result<usize, SinkRefusal>) -> anyhow::Result<()> {
     let n = n.map_err(|_| anyhow!("a text was refused"))?;
-    let text = text.get(..n).ok_or_else(|| anyhow!("no such text"))?;
+    let text = text.get(..n).context("no such text")?;
     rt.stdout().write_all(text)?;
     Ok(())
 }

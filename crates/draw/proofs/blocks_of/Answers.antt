@@ -1,5 +1,6 @@
 use Rattle.std.proofs.Common.{◌+◌, List, take, vec_items, sym, subst}
 use Rattle.std.proofs.lemmas.List.{take_all}
+use Rattle.std.proofs.lemmas.Option.{MatchOption-at_some}
 use Rattle.geometry.specs.declared.block.Block.{Block}
 use Rattle.draw.specs.declared.Entry.{Entry}
 use Rattle.draw.specs.Entries.{AreBlocks}
@@ -11,7 +12,8 @@ loop-entry-preserved c =
     let es = c.args.entries.now in
     let P : List Block → Type 0 = λ bs. AreBlocks (take (c.loop-entry.entry-index + 1) es) bs in
     subst P (sym c.in_ok-push.ensures.items)
-    (are_more es c.loop-entry.entry-index (vec_items c.loop-entry.blocks) _ c.in-Some.block c.loop-entry-test.true c.loop-entry.invariant c.in-Some.ensures)
+    (are_more es c.loop-entry.entry-index (vec_items c.loop-entry.blocks) _ c.in_ok-block.block c.loop-entry-test.true c.loop-entry.invariant
+    (MatchOption-at_some _ _ c.in_ok-block.block c.in_ok-block.ensures c.block_of.ensures))
 
 pub returns : goal.returns
 returns c =
