@@ -13,7 +13,7 @@ use crate::out::Out;
 use crate::writing::{Text, write};
 use geometry::block::Block;
 use geometry::cell::Cell;
-use geometry::limits::SITE;
+use geometry::limits::{MATERIALS, SITE};
 use sinks::grid::in_grid;
 use sinks::refusal::SinkRefusal;
 use sinks::sink::Sink;
@@ -35,7 +35,7 @@ fn put_materials<W: Out>(out: &mut W, tallies: &Tallies)
     requires { W.fits out.old (up_to (material_line (count_of tallies.now) (volume_held tallies.now)) 16) }
     ensures { W.wrote out.old (up_to (material_line (count_of tallies.now) (volume_held tallies.now)) 16) out.new }
 {
-    for m in 0..16 {
+    for m in 0..MATERIALS as usize {
         put_material(out, tallies, m);
     }
 }

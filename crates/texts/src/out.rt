@@ -4,6 +4,8 @@ ghost use Rattle.texts.specs.Outs.{OutLaws, Counted, is_counted, has_room, Curso
 
 use crate::bytes::text_at;
 
+// Stays: it is no `fmt::Write`, which takes `str` and may fail, and says nothing of two texts in a row; here bytes are
+// put where they fit, and the laws say what one text after another leaves.
 pub(crate) trait Out {
     // Whether there is room for a text.
     ghost fits: { Self → List ℕ → Type 0 };
@@ -18,7 +20,7 @@ pub(crate) trait Out {
         ensures { wrote self.old text.now self.new };
 }
 
-// How many bytes came; the number stays at 2^64 - 1.
+// How many bytes came; it stays at 2^64 - 1 where it would pass it.
 #[derive(Drop)]
 pub(crate) struct Measure {
     pub(crate) bytes: usize,

@@ -7,6 +7,7 @@ ghost use Rattle.texts.specs.Writing.{Wrote};
 use crate::out::{Cursor, Measure, Out};
 use sinks::refusal::SinkRefusal;
 
+// Stays: it is no `Display`, whose text goes into a `fmt::Write`: that may fail, and says nothing of two texts in a row.
 pub(crate) trait Text {
     ghost text: { Self → List ℕ };
 
