@@ -1,8 +1,6 @@
 use Rattle.std.proofs.Common.{◌+◌, List, take, vec_items, sym, subst}
-use Rattle.std.proofs.lemmas.List.{take_all}
 use Rattle.std.proofs.lemmas.Option.{MatchOption-at_some}
 use Rattle.geometry.specs.declared.block.Block.{Block}
-use Rattle.draw.specs.declared.Entry.{Entry}
 use Rattle.draw.specs.Entries.{AreBlocks}
 use Rattle.draw.proofs.Entered.{are_more}
 use Rattle.draw.proofs.blocks_of.Goals as goal
@@ -14,8 +12,3 @@ loop-entry-preserved c =
     subst P (sym c.in_ok-push.ensures.items)
     (are_more es c.loop-entry.entry-index (vec_items c.loop-entry.blocks) _ c.in_ok-block.block c.loop-entry-test.true c.loop-entry.invariant
     (MatchOption-at_some _ _ c.in_ok-block.block c.in_ok-block.ensures c.block_of.ensures))
-
-pub returns : goal.returns
-returns c =
-    let P : List Entry → Type 0 = λ es. AreBlocks es (vec_items c.loop-entry.blocks) in
-    subst P (take_all c.loop-entry.entry-index c.args.entries.now c.loop-entry-test.false) c.loop-entry.invariant

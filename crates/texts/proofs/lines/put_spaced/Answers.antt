@@ -1,5 +1,5 @@
-use Rattle.std.proofs.Common.{◌∷◌, [], ◌++◌, ◌+◌, take, get_or, decimal, sym, ap, arith}
-use Rattle.std.proofs.lemmas.List.{length-append, take_all}
+use Rattle.std.proofs.Common.{◌∷◌, [], ◌++◌, ◌+◌, take, get_or, decimal, sym, arith}
+use Rattle.std.proofs.lemmas.List.{length-append}
 use Rattle.texts.specs.Lines.{spaced}
 use Rattle.texts.proofs.Outs.{out_is, out_none}
 use Rattle.texts.proofs.Texts.{spaced_more, length_spaced_more, spaced_front}
@@ -30,6 +30,3 @@ loop-n-preserved g c =
     let one = g.W.Out.laws.joined c.loop-n.out c.put.new.self c.put_number.new.out (32 ∷ []) (decimal (get_or ns i 0)) c.put.ensures c.put_number.ensures in
     out_is g.W.Out.laws (sym (spaced_more ns i c.loop-n-test.true))
     (g.W.Out.laws.joined c.args.out.now c.loop-n.out c.put_number.new.out (spaced (take i ns)) (32 ∷ decimal (get_or ns i 0)) c.loop-n.invariant one)
-
-pub returns : goal.returns
-returns g c = out_is g.W.Out.laws (ap spaced (take_all c.loop-n.n-index c.args.numbers.now c.loop-n-test.false)) c.loop-n.invariant

@@ -1,5 +1,4 @@
-use Rattle.std.proofs.Common.{ℕ, List, sym, ap, slice_index_or, [], ◌≡◌, arith}
-use Rattle.texts.specs.Lines.{up_to}
+use Rattle.std.proofs.Common.{ℕ, List, sym, ap, slice_index_or, []}
 use Rattle.texts.specs.Drawings.{numbered_face, face_line}
 use Rattle.texts.proofs.Outs.{out_first, out_next, out_room, out_is, room_is}
 use Rattle.texts.proofs.obj_lines.put_faces.Goals as goal
@@ -18,8 +17,3 @@ loop-face-preserved g c =
     let i = c.loop-face.face-index in
     out_next g.W.Out.laws (face_line c.args.drawn) i c.args.out.now c.loop-face.out c.put_face.new.out c.loop-face.invariant
     (out_is g.W.Out.laws (ap (λ (vs : List (List ℕ)). numbered_face c.args.drawn (slice_index_or vs i [])) c.faces-face-items.ensures) c.put_face.ensures)
-
-pub returns : goal.returns
-returns g c =
-    let e : c.loop-face.face-index ≡ 6 = omega (arith, c.loop-face-test.false, c.loop-face.auto.face-index-end) in
-    out_is g.W.Out.laws (ap (up_to (face_line c.args.drawn)) e) c.loop-face.invariant
