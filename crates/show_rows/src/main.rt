@@ -62,6 +62,7 @@ fn show(rt: &HostRuntime, title: &str, answer: Result<Row, RowRefusal>) -> Resul
     Ok(())
 }
 
+// Stays: a line for each, as in the program that compares; a library for two programs would be longer.
 fn fix(length: u32) -> Size {
     Size::Fix(Mm(length))
 }
