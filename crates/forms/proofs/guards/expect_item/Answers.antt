@@ -7,8 +7,3 @@ use Rattle.forms.proofs.guards.expect_item.Goals as goal
 pub returns-in_err-take : goal.returns-in_err-take
 returns-in_err-take c =
     rw c.from_residual.ensures (λ k. no_item k (tokens_left c.args.tokens.now) (c.in_err-take.ensures.took open_at (λ u o h. search rules)).0)
-
-pub returns-in_err-word : goal.returns-in_err-word
-returns-in_err-word c =
-    rw c.from_residual-in_err-word.ensures (λ k.
-    no_item_word k _ (tokens_left c.args.tokens.now) _ (c.in_ok-take.ensures.took open_at (λ u o h. search rules)).0 (c.in_err-word.ensures.took word_at (λ u o h. search rules)).0)

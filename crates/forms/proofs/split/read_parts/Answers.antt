@@ -21,13 +21,6 @@ returns-then-len-room c =
     too_many_lem c.args.room c.args.uses.now c.loop-parts.uses c.args.tokens.now c.loop-parts.tokens
     c.loop-parts.parts c.loop-parts.invariant c.loop-parts.tokens (omega arith)
 
-pub returns-in_err-add_part : goal.returns-in_err-add_part
-returns-in_err-add_part c =
-    rw c.from_residual-in_err-add_part.ensures
-    (not_added c.args.room c.args.uses.now c.loop-parts.uses c.args.tokens.now c.loop-parts.tokens
-    c.loop-parts.parts c.loop-parts.invariant c.read_part.new.tokens c.read_part.new.tokens c.add_part.new.uses
-    c.add_part.new.parts c.in_ok-line.line (omega arith) c.in_ok-line.ensures c.in_err-add_part.ensures)
-
 pub loop-parts-preserved : goal.loop-parts-preserved
 loop-parts-preserved c =
     parts_on c.args.room c.args.uses.now c.add_part.new.uses c.args.tokens.now c.read_part.new.tokens
@@ -40,9 +33,3 @@ returns-in-Close c =
     c.expect_more.new.tokens c.add_part.new.parts c.in_ok-expect_more.field-0 (past (goal.at.returns-in-Close c).After-expect_more)
     (rw c.in_ok-add_part.ensures.parts (simp length-append (omega arith))) (c.in_ok-line.ensures.kept ∙ c.loop-parts.invariant.kept)
     c.in_ok-expect_more.ensures c.in-Close.is
-
-pub returns-in_err-expect_more : goal.returns-in_err-expect_more
-returns-in_err-expect_more c =
-    rw c.from_residual-in_err-expect_more.ensures
-    (no_more c.args.room c.args.uses.now c.add_part.new.uses c.args.tokens.now c.read_part.new.tokens
-    c.expect_more.new.tokens c.add_part.new.parts (past (goal.at.returns-in_err-expect_more c).After-expect_more) c.in_err-expect_more.ensures)

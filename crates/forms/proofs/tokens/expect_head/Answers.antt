@@ -7,8 +7,3 @@ use Rattle.forms.proofs.tokens.expect_head.Goals as goal
 pub returns-in_err-take : goal.returns-in_err-take
 returns-in_err-take c =
     rw c.from_residual.ensures (λ ts. not_open (tokens_left c.args.tokens.now) _ (c.in_err-take.ensures.took open_at (λ u o h. search rules)).0)
-
-pub returns-in_err-word : goal.returns-in_err-word
-returns-in_err-word c =
-    rw c.from_residual-in_err-word.ensures (λ ts.
-    not_head c.args.text.now _ (tokens_left c.args.tokens.now) _ ts (c.in_ok-take.ensures.took open_at (λ u o h. search rules)).0 (c.in_err-word.ensures.took word_at (λ u o h. search rules)).0)

@@ -7,13 +7,6 @@ use Rattle.text.proofs.Bracketing.{bracketed}
 use Rattle.text.proofs.Scanned.{scan_is}
 use Rattle.text.proofs.findings.find_unbalanced.Goals as goal
 
-pub loop-i-preserved : goal.loop-i-preserved
-loop-i-preserved c = (
-  c.bracket_step.ensures.size,
-  sym (c.in_default.ensures.goes (drop (c.loop-i.i + 1) c.args.line.now))
-      ∙ (sym (at_drop_more (scanned (c.loop-i.i + 1) (entries c.loop-i.opened)) c.args.line.now c.loop-i.i 0 (omega arith)) ∙ c.loop-i.invariant.1),
-)
-
 pub returns-in-Err : goal.returns-in-Err
 returns-in-Err c =
     let e : Some c.in-Err.column ≡ unbalanced c.args.line.now =
