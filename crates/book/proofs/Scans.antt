@@ -1,6 +1,6 @@
 -- Scans that stop at the first element that fails.
 use Rattle.std.proofs.Common.{◌≡◌, ℕ, zero, suc, ◌+◌, ◌-◌, ◌<◌, ◌≤◌, Bool, true, false, cond, Some, None, ⊎_elim, lt-ltb, ◌&&◌, eqb, List, [], ◌∷◌, length, get_or, drop, sym, refl, ap, ◌∙◌, arith, eqb-true}
-use Rattle.std.proofs.lemmas.List.{at_drop_more, nil_from_length, get_or-drop, length-drop}
+use Rattle.std.proofs.lemmas.List.{nil_from_length, get_or-drop, length-drop}
 use Rattle.std.proofs.lemmas.List.Quantifiers.{position-Some}
 use Rattle.std.proofs.lemmas.List.Sums.{fails_before_first}
 use Rattle.std.proofs.lemmas.Option.{none-some, slice_get_within, get_or_from_slice_get}
@@ -9,12 +9,7 @@ use Rattle.std.specs.List.{list_all, enumerate_from, slice_get, position, positi
 use Rattle.geometry.specs.declared.cuboid.Cuboid.{Cuboid}
 use Rattle.book.specs.declared.line.Line.{Line}
 use Rattle.book.specs.Applying.{hold, opens_to, Applies}
-use Rattle.book.specs.Checks.{every, guards_of, ok_body, ok_from, last_free}
-
--- one more element, by what the test says of it
-pub every_more : {X : Type 0} (p : X → Bool) (xs : List X) (i : ℕ) (d : X) (b : Bool) → i < length xs → b ≡ p (get_or xs i d)
-    → every p (drop i xs) ≡ (b && every p (drop (i + 1) xs))
-every_more p xs i d b h e = at_drop_more (every p) xs i d h ∙ ap (λ x. x && every p (drop (i + 1) xs)) (sym e)
+use Rattle.book.specs.Checks.{guards_of, ok_body, ok_from, last_free}
 
 -- the last of n + 1 lines
 pub last_is_lem : (ls : List Line) (n : ℕ) (d : Line) → length ls ≡ n + 1 → last_free ls ≡ eqb (length (guards_of (get_or ls n d))) 0

@@ -12,22 +12,6 @@ use Rattle.build.specs.History.{Event, History, opened, run, wait, close, drain,
 use Rattle.build.specs.Carried.{call_of, made, OneMore, Stage, Stages}
 use Rattle.build.proofs.Histories.{lawful}
 
--- one call more is made
-pub made_more : {K : Type 0} (f : K → Option Call) (es fs : List Event) (e : Event) (ks : List K) (i : ℕ) (d : K) → i < length ks
-    → made fs ≡ made es ++ map f (take i ks) → call_of e ≡ f (get_or ks i d) → made (e ∷ fs) ≡ made es ++ map f (take (i + 1) ks)
-made_more f es fs e ks i d h m k =
-    ap (λ xs. xs ++ (call_of e ∷ [])) m
-    ∙ append_assoc (made es) (map f (take i ks)) (call_of e ∷ [])
-    ∙ ap (λ xs. made es ++ xs)
-    (ap (λ x. map f (take i ks) ++ (x ∷ [])) k ∙ sym (ap (map f) (take_more ks i d h) ∙ map_push f (take i ks) (get_or ks i d)))
-
--- the same call, where the book and the stack are the same
-pub one_at : {S : Type 0} (edge : ℕ) (parts : S → Parts) (took : S → Block → S → Type 0) (kept : S → S → Type 0) (text : S → List ℕ)
-    (ls ms : List Line) (cap top : ℕ) (k : Call) (ws : List Scope) (c : ℕ) (s : S) (vs : List Scope) (d : ℕ) (t : S) → ls ≡ ms → cap ≡ top
-    → OneMore edge parts took kept text ls cap k ws c s vs d t → OneMore edge parts took kept text ms top k ws c s vs d t
-one_at edge parts took kept text ls ms cap top k ws c s vs d t e f one =
-    subst₂ (λ (ns : List Line) (n : ℕ). OneMore edge parts took kept text ns n k ws c s vs d t) e f one
-
 module _ {S : Type 0} (edge : ℕ) (parts : S → Parts) (took : S → Block → S → Type 0) (kept : S → S → Type 0) (text : S → List ℕ)
     (ls : List Line) (cap : ℕ) (lots : List Scope) (start : S) (ok : Checked ls) (few : length lots ≤ 16) (none : Empty (parts start)) where
   stage : {es : List Event} {o : Bool} {ws : List Scope} {c : ℕ} {s : S} → History edge parts took kept text ls cap lots start es o ws c s → Stage edge parts ls lots es

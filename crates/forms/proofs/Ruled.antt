@@ -24,11 +24,6 @@ use Rattle.forms.proofs.Pushes.{refused}
 use Rattle.forms.proofs.Cleaned.{rule_clean}
 use Rattle.forms.proofs.Whole.{past_head}
 
-pub no_name_room : (room : ℕ) (names names' uses uses' : List Name) (own : Name) (s t : Tokens) (r : RuleLine) → ItemsTo uses uses' t r
-    → (x : Result Unit Full) → Pushed name_room names own names' x → None ≡ result_ok x → TookRule room names names' uses uses' s None
-no_name_room room names names' uses uses' own s t r h x d e =
-    let p = refused name_room names own names' x d e in (p.1, record { used = h.used; grown = h.grown }, λ l q. absurd (omega (arith, p.0)))
-
 module _ (n room most : ℕ) (l : List ℕ) (names names' uses uses' : List Name) (s t : Tokens) (all : tokens_left s ≡ tokens_of l) (place : s.line.number ≡ n)
     (small : most ≡ min room most_parts) (h : Headed (codes "rule") s t) where
   no_rule : (length names < name_room → (most ≤ most_parts) × (length uses + most_parts ≤ use_room)

@@ -1,5 +1,5 @@
 -- Sums and counts over the numbers below a bound.
-use Rattle.std.proofs.Common.{◌≡◌, ℕ, zero, suc, ◌+◌, ◌*◌, ◌<◌, ◌≤◌, Bool, true, false, cond, sym, refl, ap, ⊎_elim, add-mul, mul-zero, zero-mul, mul-add, add-one, arith}
+use Rattle.std.proofs.Common.{◌≡◌, ℕ, zero, suc, ◌+◌, ◌*◌, ◌<◌, ◌≤◌, Bool, true, false, cond, sym, refl, ap, ⊎_elim, add-mul, mul-zero, zero-mul, mul-add, arith}
 use Rattle.std.proofs.lemmas.Bool.{cases_lt}
 use Rattle.geometry.specs.Sums.{total, count}
 
@@ -20,9 +20,6 @@ one_le false q h = omega arith
 pub one_up : (p : Bool) → one p ≤ 1
 one_up true = omega arith
 one_up false = omega arith
-
-pub total_more : (f : ℕ → ℕ) (n : ℕ) → total f (n + 1) ≡ total f n + f n
-total_more f n = rw add-one
 
 pub total_same : (f g : ℕ → ℕ) (n : ℕ) → ((k : ℕ) → k < n → f k ≡ g k) → total f n ≡ total g n
 total_same f g zero h = refl

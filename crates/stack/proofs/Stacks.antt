@@ -1,19 +1,12 @@
 -- How many entries are held, and a fold over them.
-use Rattle.std.proofs.Common.{◌≡◌, ℕ, min, List, [], ◌∷◌, ◌++◌, reverse, length, take, sym, ap, ◌∙◌, ⊎_elim, subst, arith}
-use Rattle.std.proofs.lemmas.List.{length-reverse, length-take, take_all, reverse-append}
-use Rattle.std.proofs.lemmas.Bool.{cases_lt}
+use Rattle.std.proofs.Common.{◌≡◌, ℕ, min, List, [], ◌∷◌, ◌++◌, reverse, length, take, sym, ap, ◌∙◌, subst}
+use Rattle.std.proofs.lemmas.List.{length-reverse, length-take, reverse-append}
 use Rattle.std.specs.List.{FoldsTo}
 use Rattle.stack.specs.Held.{held}
 
 module _ {X : Type 0} where
   pub held_length : (xs : List X) (n : ℕ) → length (held xs n) ≡ min n (length xs)
   held_length xs n = length-reverse (take n xs) ∙ length-take n xs
-
-  -- a mark past the end counts as the end
-  pub held_min : (xs : List X) (n m : ℕ) → m ≡ min n (length xs) → held xs n ≡ held xs m
-  held_min xs n m e =
-      ⊎_elim (λ h. let q : n ≡ m = omega arith in ap (held xs) q)
-      (λ h. ap reverse (take_all n xs h ∙ sym (take_all m xs (omega arith)))) (cases_lt n (length xs))
 
   -- a fold over the entries takes the last of the slots first
   pub fold_last : {A : Type 0} (R : A → X → A → Type 0) (a c b : A) (xs ys : List X) (x : X) → xs ≡ ys ++ (x ∷ []) → R a x c

@@ -1,9 +1,8 @@
 -- What the digits of a word say, against what is written of a number.
-use Rattle.std.proofs.Common.{◌≡◌, ℕ, ◌+◌, ◌-◌, ◌*◌, ◌/◌, ◌%◌, ◌^◌, ◌<◌, ◌≤◌, Bool, true, false, cond, leb, List, [], ◌∷◌, ◌++◌, length, get_or, drop, Some, None, decimal, Option, sym, refl, ap, ◌∙◌, subst, ⊎_elim, arith, rules}
+use Rattle.std.proofs.Common.{◌≡◌, ℕ, ◌+◌, ◌-◌, ◌*◌, ◌/◌, ◌%◌, ◌^◌, ◌<◌, ◌≤◌, Bool, true, false, cond, leb, List, [], ◌∷◌, ◌++◌, length, get_or, Some, None, decimal, Option, sym, refl, ap, ◌∙◌, subst, ⊎_elim, arith, rules}
 use Rattle.std.specs.Char.{is_ascii_digit}
 use Rattle.std.specs.Option.{option_and_then}
 use Rattle.std.specs.Str.{all_ascii_digits}
-use Rattle.std.proofs.lemmas.List.{at_drop_more, at_drop_all}
 use Rattle.std.proofs.lemmas.Option.{none-some}
 use Rattle.std.proofs.lemmas.Bool.{cond-true, cond-false, cases_lt, cases_Bool, and_parts, and_from, leb-true, leb-false, le-leb}
 use Rattle.std.proofs.lemmas.Bool.Decides.{nat_tests}
@@ -11,23 +10,11 @@ use Rattle.std.proofs.lemmas.Slice.Eq.{bytes_eq-Decides}
 use Rattle.std.proofs.lemmas.Str.Parse.{IsNumeralModel, numerals_by_fold}
 use Rattle.std.proofs.lemmas.Fmt.{decimal_by_steps, decimal-digits_value, digits_value-decimal, first_decimal, decimal_nonempty, decimal_digit}
 use Rattle.text.specs.Bytes.{is_digit}
-use Rattle.text.specs.Numbers.{value_from, in_range, number_in, NumberIn, good_start, digit_more, reading}
+use Rattle.text.specs.Numbers.{value_from, in_range, number_in, NumberIn, good_start, reading}
 
 -- what the rest of the digits gives after one more
 abbrev then : ℕ → List ℕ → Option ℕ → Option ℕ
 then h bs o = elim o [ None ↦ None | Some m ↦ reading h m bs ]
-
--- one digit more of the loop
-
-pub digit_more_lem : (h : ℕ) (xs : List ℕ) (i n m : ℕ) → i < length xs → Some m ≡ digit_more h n (get_or xs i 0)
-    → reading h n (drop i xs) ≡ reading h m (drop (i + 1) xs)
-digit_more_lem h xs i n m l e = at_drop_more (reading h n) xs i 0 l ∙ ap (then h (drop (i + 1) xs)) (sym e)
-
-pub digit_bad : (h : ℕ) (xs : List ℕ) (i n : ℕ) → i < length xs → None ≡ digit_more h n (get_or xs i 0) → reading h n (drop i xs) ≡ None
-digit_bad h xs i n l e = at_drop_more (reading h n) xs i 0 l ∙ ap (then h (drop (i + 1) xs)) (sym e)
-
-pub digit_end : (h : ℕ) (xs : List ℕ) (i n : ℕ) → length xs ≤ i → reading h n (drop i xs) ≡ Some n
-digit_end h xs i n l = at_drop_all (reading h n) xs i l
 
 -- digits against their value
 
