@@ -1,11 +1,9 @@
 -- Rule lines, as whole lines.
-use Rattle.std.proofs.Common.{◌≡◌, ℕ, ◌+◌, ◌<◌, ◌≤◌, min, false, List, [], ◌∷◌, length, take, Some, None, codes, Option, Result, sym, refl, ap, ◌∙◌, subst, arith}
+use Rattle.std.proofs.Common.{◌≡◌, ℕ, ◌+◌, ◌<◌, ◌≤◌, min, false, List, [], ◌∷◌, length, take, Some, None, codes, Option, sym, refl, ap, ◌∙◌, subst, arith}
 use lib.Seq.{take-length}
 use Rattle.std.proofs.lemmas.List.{take_at}
 use Rattle.std.proofs.lemmas.Bool.{both_ways}
 use Rattle.rows.specs.Parts.{most_parts}
-use Rattle.bounded.specs.Held.{Pushed}
-use Rattle.bounded.specs.declared.full.Full.{Full}
 use Rattle.text.specs.Tokens.{Lexeme, opening, word, tokens_of, tokens_left}
 use Rattle.text.specs.declared.tokens.Tokens.{Tokens}
 use Rattle.grammar.specs.Forms.{guard_limit, plain}
@@ -15,12 +13,10 @@ use Rattle.grammar.specs.declared.state.Naming.TheVariants.{Own}
 use Rattle.forms.specs.Clean.{clean}
 use Rattle.forms.specs.Met.{met, is_named}
 use Rattle.forms.specs.Reads.{InLine, name_room, use_room, NoRule}
-use Rattle.forms.specs.RuleLines.{ItemsTo, TookRule, RuleIn}
+use Rattle.forms.specs.RuleLines.{TookRule, RuleIn}
 use Rattle.forms.specs.Taken.{Headed}
 use Rattle.forms.specs.Told.{Name, placed_word}
 use Rattle.forms.specs.declared.rule.RuleLine.{RuleLine}
-use Rattle.std.specs.Result.{result_ok}
-use Rattle.forms.proofs.Pushes.{refused}
 use Rattle.forms.proofs.Cleaned.{rule_clean}
 use Rattle.forms.proofs.Whole.{past_head}
 

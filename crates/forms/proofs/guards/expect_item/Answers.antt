@@ -1,7 +1,7 @@
 use Rattle.std.proofs.Common.{rules}
-use Rattle.text.specs.Takes.{open_at, word_at}
+use Rattle.text.specs.Takes.{open_at}
 use Rattle.text.specs.Tokens.{tokens_left}
-use Rattle.forms.proofs.Fronted.{no_item, no_item_word}
+use Rattle.forms.proofs.Fronted.{no_item}
 use Rattle.forms.proofs.guards.expect_item.Goals as goal
 
 pub returns-in_err-take : goal.returns-in_err-take

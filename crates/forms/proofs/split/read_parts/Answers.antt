@@ -2,7 +2,7 @@ use Rattle.std.proofs.Common.{◌∙◌, arith}
 use Rattle.std.proofs.lemmas.List.{length-append}
 use Rattle.text.specs.Tokens.{tokens_left}
 use Rattle.forms.specs.Splits.{PartsPast}
-use Rattle.forms.proofs.Splitting.{part_past, parts_on, parts_end, too_many_lem, not_added, no_more}
+use Rattle.forms.proofs.Splitting.{part_past, parts_on, parts_end, too_many_lem}
 use Rattle.forms.proofs.split.read_parts.Goals as goal
 use Rattle.forms.proofs.split.read_parts.Goals.{After-expect_more}
 

@@ -1,7 +1,7 @@
 use Rattle.std.proofs.Common.{rules}
-use Rattle.text.specs.Takes.{open_at, word_at}
+use Rattle.text.specs.Takes.{open_at}
 use Rattle.text.specs.Tokens.{tokens_left}
-use Rattle.forms.proofs.Leaves.{not_open, not_head}
+use Rattle.forms.proofs.Leaves.{not_open}
 use Rattle.forms.proofs.tokens.expect_head.Goals as goal
 
 pub returns-in_err-take : goal.returns-in_err-take
