@@ -4,6 +4,7 @@ use rows::size::Size;
 use rows::size::Size::{Fix, Float};
 use std::alloc::{AllocError, Global};
 
+// Stays: a line for each, as in the program that shows rows; a library for two programs would be longer.
 fn fix(length: u32) -> Size {
     Fix(Mm(length))
 }

@@ -38,7 +38,7 @@ fn is_misplaced(state: State, t: Token) -> bool
 }
 
 // The range of the number that is wanted next, if one is.
-// Stays: a pair, as its definition has it; a struct would be made and taken apart at each use, and is no plainer.
+// Stays: a pair, as its definition has it; it is taken apart at once, so that a struct or a range would be no plainer.
 pub fn wanted_range(state: State) -> Option<(u32, u32)>
     ensures { result ≡ ranging (expects state) }
 {

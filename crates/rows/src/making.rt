@@ -21,6 +21,7 @@ use geometry::units::{Mm, Weight};
 pub const MOST_PARTS: usize = 16;
 
 // The least and the most that a part of this kind may ask for.
+// Stays: a pair that is taken apart at once.
 fn range(size: Size) -> (u32, u32)
     ensures { (result.0 ≡ lowest size) × (result.1 ≡ highest size) }
 {

@@ -98,6 +98,7 @@ pub(crate) fn opens_part(state: State, t: Token) -> bool
 }
 
 // The column of the k-th token, from 0, of those that a test picks.
+// Stays: `first_at` of the grammar is much the same for the first such token, but lies below what speaks of the k-th.
 pub(crate) fn pick<F: Fn(State, Token) -> bool>(picks: F, line: Line, k: usize) -> Option<usize>
     requires { F.IsAlwaysCallable picks }
     ensures { (test : List Want → Lexeme → Bool) → TestedBy (F.post picks) test → result ≡ column_of k (met test (form Rules ∷ []) (tokens_of line.entry.bytes.now)) }

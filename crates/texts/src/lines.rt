@@ -67,6 +67,7 @@ pub(crate) fn put_line<W: Out>(out: &mut W, kind: LineKind, first: u64, others: 
 }
 
 // A line whose numbers after the first are lent.
+// Stays: beside `Line`, so that lines of any number of numbers are put by one function.
 #[derive(Clone, Copy)]
 pub(crate) struct LentLine<'a> {
     kind: LineKind,

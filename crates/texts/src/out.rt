@@ -41,6 +41,7 @@ impl Out for Measure {
 }
 
 // A place in a lent buffer.
+// Stays: buffer and place side by side, since the memory is the caller's.
 #[derive(Drop)]
 pub(crate) struct Cursor<'b> {
     pub(crate) out: &'b mut [u8],
