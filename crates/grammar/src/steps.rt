@@ -6,12 +6,12 @@ ghost use Rattle.grammar.specs.States.{expects, wanted};
 ghost use Rattle.grammar.specs.Wants.{step, onto, low_of, head_wants, item_wants, part_wants, shut, more};
 
 use crate::state::{FileKind, Naming, State};
+// the greatest weight
+pub use geometry::limits::MOST_WEIGHT as WEIGHT_LIMIT;
 use geometry::limits::SITE;
 use text::numbers::number_in;
 use text::tokens::Token;
 use text::words::is_axis;
-
-pub use geometry::limits::MOST_WEIGHT as WEIGHT_LIMIT;
 
 fn on_open(state: State) -> Option<State>
     ensures { wanted result ≡ step (expects state) opening }
