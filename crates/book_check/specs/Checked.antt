@@ -5,7 +5,7 @@ use Rattle.book.specs.Lines.{lines_of}
 use Rattle.book.specs.declared.line.Line.{Line}
 use Rattle.book_check.specs.declared.checked.CheckedBook.{CheckedBook}
 
--- its pages
+-- the book as a clause sees it
 abbrev pub pages_in : CheckedBook → Book
 pages_in c = c.book
 

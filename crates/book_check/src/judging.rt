@@ -98,6 +98,7 @@ fn first_fault(book: &Book) -> Result<(), Placed<Fault>>
 }
 
 // The first fault of a book, or nothing just if all its lines are in order; the book stays as it is.
+// Stays: an Option over first_fault, since a judgement is asked and alters nothing, and says in plain words what passes.
 pub fn judge_book(book: &Book) -> Option<Placed<Fault>>
     ensures value { result ≡ book_fault book.now }
     ensures first { FirstFault book.now result }

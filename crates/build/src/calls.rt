@@ -1,5 +1,5 @@
 // Calls as data, carried out one after another.
-// Stays: the laws speak of lists of calls, so a call is data and no closure; and sink and buffer are lent apart by the caller.
+// Stays: the laws speak of lists of calls, so a call is data and no closure; sink and buffer are lent apart by the caller.
 ghost use Rattle.std.specs.Prelude.{◌≡◌, length};
 ghost use Rattle.sinks.specs.Meaning.{Empty};
 ghost use Rattle.build.specs.Builds.{waiting_in, space_of, lines_in, steps_of, lots_of, joined_lines, passed};

@@ -13,6 +13,7 @@ use text::takes::take;
 use text::tokens::{Token, Tokens};
 
 // What a word begins.
+// Stays: an Option, like the other readers, with no error to name.
 fn item_of(word: &[u8]) -> Option<Item>
     ensures { ItemIn word.now result }
 {

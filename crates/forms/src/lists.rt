@@ -6,4 +6,5 @@ use text::placed::Placed;
 pub type RuleNames<'a> = BoundedVec<Placed<&'a [u8]>, 64>;
 
 // The names that the bodies of the rule lines use.
+// Stays: tokens and this list are passed side by side, since tokens are read alone too.
 pub type Uses<'a> = BoundedVec<Placed<&'a [u8]>, 1024>;

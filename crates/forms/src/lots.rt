@@ -20,7 +20,8 @@ fn rest_of_lot<'a>(tokens: &mut Tokens<'a>) -> Option<LotLine<'a>>
 }
 
 // What a line of the lot file says; None where it is no lot with good numbers.
-// Stays: three lines, as of a material and of a rule; a closure for the rest of the line would say no less.
+// Stays: three lines, as of a material and of a rule; one function with a closure for the rest of the line would be no
+// shorter.
 pub fn read_lot<'a>(line: Line<'a>) -> Option<LotLine<'a>>
     ensures { LotRead line.entry.number line.entry.bytes.now result }
 {

@@ -20,6 +20,7 @@ pub(crate) struct PartLine<'a> {
 }
 
 // The kind of part that a word begins.
+// Stays: an Option, like the other readers, with no error to name.
 fn kind_of(word: &[u8]) -> Option<Kind>
     ensures { KindIn word.now result }
 {

@@ -11,8 +11,8 @@ use text::takes::take;
 use text::tokens::{Token, Tokens};
 
 // The opening bracket of a first part.
-// Stays: this and the next two say more than `take` where they answer None: what the form cannot go on with, which is not
-// the same for the three.
+// Stays: the contracts of this and the next two say of None with what the form cannot go on, which differs for the three;
+// that of `take` cannot.
 pub(crate) fn expect_open(tokens: &mut Tokens) -> Option<Placed<()>>
     ensures { TookOpen tokens.old tokens.new result }
 {
@@ -42,6 +42,7 @@ pub(crate) fn expect_number(tokens: &mut Tokens, low: u32, high: u32) -> Option<
 }
 
 // The axis that a word is.
+// Stays: an Option, like the other readers, with no error to name.
 fn axis_of(word: &[u8]) -> Option<Axis>
     ensures { AxisIn word.now result }
 {

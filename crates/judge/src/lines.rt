@@ -50,6 +50,7 @@ pub fn first_fault(file: FileKind, line: Line) -> Result<(), Placed<Fault>>
 
 // The judgement of a line by itself: the fault with the least number at its leftmost place, or nothing just if the line is
 // not too long, has allowed bytes only, and is blank or one form of the file with its numbers and names in order.
+// Stays: an Option over first_fault, since a judgement is asked and alters nothing, and says in plain words what passes.
 pub fn judge_line(file: FileKind, line: Line) -> Option<Placed<Fault>>
     ensures value { result ≡ judged file line.entry.number line.entry.bytes.now }
     ensures least { Least file line.entry.number line.entry.bytes.now result }

@@ -22,7 +22,7 @@ pub fn share(a: Cuboid, b: Cuboid) -> bool
 }
 
 // Whether a box shares a cube with one of a list.
-// Stays: a public question over boxes; the like one over lots, in the reading, asks lots where they stand and needs no list of boxes.
+// Stays: a public question over boxes; the like one in the reading asks lots where they stand, and needs no list of boxes.
 pub fn share_any(a: Cuboid, boxes: &[Cuboid]) -> bool
     ensures { result ≡ list_any (λ b. shares (box_of a) (box_of b)) boxes.now }
 {

@@ -8,6 +8,7 @@ pub struct Segment {
     pub length: Mm,
 }
 
+// Stays: no model, as the inline list has none.
 #[derive(Clone, Copy)]
 pub struct Row {
     pub(crate) segments: InlineVec<Segment, 64>,

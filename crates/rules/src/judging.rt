@@ -26,6 +26,7 @@ pub const MOST_MATERIALS: usize = 15;
 
 pub const ALL_PARTS: usize = 256;
 
+// Stays: a line and the book are passed side by side, since each is asked alone too.
 // A material that was declared before.
 fn find_redeclared(line: Line, book: &Book) -> Option<usize>
     ensures { result ≡ first_at (redeclared (left_by book.now).materials) (form Rules ∷ []) (tokens_of line.entry.bytes.now) }

@@ -8,6 +8,7 @@ use crate::refusal::SinkRefusal;
 use geometry::block::Block;
 use geometry::cell::Cell;
 
+// Stays: clauses name these members one by one, since a question speaks of two of them, a drain of three, a law of others.
 pub trait Sink {
     // The edge of the sink's cells.
     const EDGE: u32;

@@ -11,6 +11,7 @@ ghost use Rattle.stack.specs.Moves.{Kept, Pushed, Popped};
 pub use bounded::full::Full;
 
 // The first `mark` slots are in use and the last of them is the top; a mark past the end counts as the end.
+// Stays: no model, since clauses speak of its size, its slice and the lender besides the entries.
 #[derive(Drop)]
 pub struct Stack<'s, T> {
     slots: &'s mut [T],

@@ -1,8 +1,9 @@
 // Replacing the top scope by the scopes of a row, or by one with another rule.
 // Stays: the functions that are given the stack ask that the scope lies on top, and say that the slice is the same. As a ghost
 // field of a struct with the stack the first would have to hold after the step too, when that scope is gone; the second
-// compares two states of the stack, which no field of one state can. Scope, axis and rule come apart at each call; that a
-// rule is below the number of lines is asked where a scope is made of it, and is a ghost field of the scope then.
+// compares two states of the stack, which no field of one state can. Scope and axis go together from the row to its pieces,
+// but each clause and body speaks of the two apart, so a struct of both would be taken apart at once; that a rule is below
+// the number of lines is asked where a scope is made of it, and is a ghost field of the scope then.
 ghost use Rattle.std.specs.Prelude.{◌≡◌, ℕ, ◌<◌, ◌≤◌, ◌∷◌, length, take, drop, IfOk};
 ghost use Rattle.geometry.specs.Boxes.{span_on, Within, Piece};
 ghost use Rattle.geometry.specs.Limits.{most_lines};

@@ -1,5 +1,4 @@
 // What a stop carries.
-// Stays: a stop is told by its number and its part, 0 if none, as the rules of the project say.
 ghost use Rattle.std.specs.Prelude.{◌≡◌};
 ghost use Rattle.steps.specs.Stops.{reason_number, reason_part, reason_along};
 
@@ -9,6 +8,7 @@ use geometry::units::Mm;
 
 impl Reason {
     // The number under which it is told; that of a sink is passed up as it is.
+    // Stays: a stop is told by its number and its part, 0 if none, as the rules of the project say.
     pub fn number(self) -> u32
         ensures { result ≡ reason_number self }
     {
