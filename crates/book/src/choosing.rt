@@ -37,9 +37,9 @@ fn first_open(lines: &[Line], cuboid: Cuboid) -> Option<usize>
 }
 
 impl RuleTable {
-    // The index of the first line from the rule's first on whose guards all hold, and that line. There is one: the last
-    // line has no guard.
-    pub fn choose(&self, scope: Scope) -> (usize, &Line)
+    // The index of the first line from the rule's first on whose guards all hold, and that line, lent. There is one: the
+    // last line has no guard.
+    pub fn choose_ref(&self, scope: Scope) -> (usize, &Line)
         ensures { Applies (lines_of self.now) scope.rule scope.cuboid result.0 result.1.now }
     {
         let first = scope.rule as usize;
@@ -48,5 +48,13 @@ impl RuleTable {
         };
         let i = first + k;
         (i, &self.lines[i])
+    }
+
+    // The same index, and a copy of the line, which stays when the table is gone.
+    pub fn choose(&self, scope: Scope) -> (usize, Line)
+        ensures { Applies (lines_of self.now) scope.rule scope.cuboid result.0 result.1 }
+    {
+        let (i, line) = self.choose_ref(scope);
+        (i, *line)
     }
 }

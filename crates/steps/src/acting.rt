@@ -133,6 +133,6 @@ pub(crate) fn step<S: Sink>(
     ensures steps { Stepped S.Sink.edge S.Sink.parts S.Sink.took S.Sink.kept (lines_of table.now) (entries stack.old) (entries stack.new) (capacity stack.old) sink.old sink.new result }
     ensures slice { SameSlice stack.old stack.new }
 {
-    let (_, line) = table.choose(scope);
+    let (_, line) = table.choose_ref(scope);
     act(stack, sink, scope, &line.body).map_err(|reason| stop_at(reason, line, scope))
 }

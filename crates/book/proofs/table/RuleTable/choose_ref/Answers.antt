@@ -3,7 +3,7 @@ use Rattle.std.proofs.lemmas.Bool.{and_parts}
 use Rattle.std.proofs.lemmas.List.{take_all, length-drop}
 use Rattle.book.specs.Checks.{ok_from, last_free}
 use Rattle.book.proofs.Scans.{never_closed, open_applies}
-use Rattle.book.proofs.table.RuleTable.choose.Goals as goal
+use Rattle.book.proofs.table.RuleTable.choose_ref.Goals as goal
 
 pub unreachable-requires : goal.unreachable-requires
 unreachable-requires c =
