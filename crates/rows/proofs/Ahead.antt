@@ -4,7 +4,7 @@ use Rattle.std.specs.List.{enumerate_from}
 use Rattle.std.proofs.lemmas.List.{length-map}
 use Rattle.std.proofs.lemmas.List.Sums.{sum_by-cons}
 use Rattle.geometry.specs.declared.units.Weight.{Weight}
-use Rattle.geometry.specs.Sums.{total}
+use Rattle.geometry.specs.Sums.{total, count}
 use Rattle.geometry.proofs.Totals.{one, total_front, total_same}
 use Rattle.rows.specs.declared.shares.Quota.{Quota}
 use Rattle.rows.specs.Apportion.{tie, comes, before, rank_by, whole, remainder}
@@ -23,10 +23,14 @@ count_total p d k (x ∷ xs) =
     let here : count_by p (enumerate_from k (x ∷ xs)) ≡ one (p (k, x)) + count_by p (enumerate_from (k + 1) xs) = sum_by-cons (λ q. one (p q)) (k, x) (enumerate_from (k + 1) xs) in
     omega (arith, here, first, rest, total_front f (length xs), count_total p d (k + 1) xs)
 
+-- counted by their indices
+pub ahead_count : (qs : List Quota) (r i : ℕ) → ahead qs r i ≡ count (λ j. comes tie (length qs) (remainder_at qs j) j r i) (length qs)
+ahead_count qs r i =
+    count_total (λ p. comes tie (length qs) p.1.remainder p.0 r i) (record { whole = record { 0 = 0 }; remainder = 0 }) 0 qs
+    ∙ total_same _ _ (length qs) (λ j _. ap (λ n. one (comes tie (length qs) (remainder_at qs j) n r i)) (omega arith))
+
 ahead_rank : (qs : List Quota) (i : ℕ) → ahead qs (remainder_at qs i) i ≡ rank_by (before tie (length qs) (remainder_at qs)) (length qs) i
-ahead_rank qs i =
-    count_total (λ p. comes tie (length qs) p.1.remainder p.0 (remainder_at qs i) i) (record { whole = record { 0 = 0 }; remainder = 0 }) 0 qs
-    ∙ total_same _ _ (length qs) (λ j _. ap (λ n. one (comes tie (length qs) (remainder_at qs j) n (remainder_at qs i) i)) (omega arith))
+ahead_rank qs i = ahead_count qs (remainder_at qs i) i
 
 -- the quotas of some weights
 pub quota_whole : (R W : ℕ) (ws : List Weight) (k : ℕ) → k < length ws → whole_at (map (quota R W) ws) k ≡ whole R (weight_at ws) W k
