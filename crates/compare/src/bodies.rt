@@ -1,8 +1,8 @@
 // Bodies to compare: a table that covers every kind, and bodies at random.
+use bounded::inline::InlineVec;
 use geometry::units::{Mm, Weight};
 use rows::size::Size;
 use rows::size::Size::{Fix, Float};
-use std::alloc::{AllocError, Global};
 
 // Stays: a line for each, as in the program that shows rows; a library for two programs would be longer.
 fn fix(length: u32) -> Size {
@@ -73,24 +73,33 @@ pub const STEPS: [u32; 4] = [0, 1, 2, 60];
 
 pub const TILES: [u32; 12] = [1, 2, 3, 7, 15, 16, 31, 64, 100, 900, 1_999, 16_384];
 
+// What the parts of a split ask for, in the value itself: a comparison asks for no memory.
+pub type Body = InlineVec<Size, 16>;
+
+fn no_parts() -> Body {
+    InlineVec::new(float(1))
+}
+
 // Sixteen floating parts of rising weights.
-pub fn rising(alloc: Global, step: u32) -> Result<Vec<Size>, AllocError> {
-    (0..16u32)
-        .map(|i| float(i.wrapping_mul(step).saturating_add(1)))
-        .collect(alloc)
+pub fn rising(step: u32) -> Body {
+    let mut body = no_parts();
+    for i in 0..16u32 {
+        let _ = body.push(float(i.wrapping_mul(step).saturating_add(1)));
+    }
+    body
 }
 
 // Fixed and floating parts by turns, fewer or more of them.
-pub fn mixed(alloc: Global, k: u32) -> Result<Vec<Size>, AllocError> {
-    (0..k.saturating_sub(20).min(16))
-        .map(|i| {
-            if i % 3 == 0 {
-                fix(i.wrapping_mul(k).saturating_add(1))
-            } else {
-                float(i.wrapping_mul(7) % 5 + 1)
-            }
-        })
-        .collect(alloc)
+pub fn mixed(k: u32) -> Body {
+    let mut body = no_parts();
+    for i in 0..k.saturating_sub(20).min(16) {
+        let _ = body.push(if i % 3 == 0 {
+            fix(i.wrapping_mul(k).saturating_add(1))
+        } else {
+            float(i.wrapping_mul(7) % 5 + 1)
+        });
+    }
+    body
 }
 
 // Numbers from a linear congruence of 64 bits, its high half.
@@ -122,9 +131,13 @@ impl Random {
         }
     }
 
-    pub fn next_body(&mut self, alloc: Global) -> Result<Vec<Size>, AllocError> {
+    pub fn next_body(&mut self) -> Body {
         let longest = self.up_to(4_000);
         let count = self.up_to(16);
-        (0..count).map(|_| self.size(longest)).collect(alloc)
+        let mut body = no_parts();
+        for _ in 0..count {
+            let _ = body.push(self.size(longest));
+        }
+        body
     }
 }

@@ -7,6 +7,7 @@ mod tally;
 
 use anyhow::{Context, Result};
 use bodies::{LISTED, Random, STEPS, TILES, mixed, rising};
+use bounded::inline::InlineVec;
 use geometry::units::Mm;
 use rows::parts::Parts;
 use rows::refusal::RowRefusal;
@@ -16,52 +17,49 @@ use rows::size::Size;
 use rows::split::split;
 use rows::tile::Tile;
 use second::{Refused, Told, second_repeat, second_split};
-use std::alloc::{AllocError, Global};
 use tally::Tally;
 
 // What the library answers, in the words of the second apportioner.
-fn told(alloc: Global, answer: Result<Row, RowRefusal>) -> Result<Told, AllocError> {
+fn told(answer: Result<Row, RowRefusal>) -> Told {
     match answer {
-        Ok(row) => Ok(Ok(
-            row.as_slice()
-                .iter()
-                .map(|segment| segment.length.0 as u64)
-                .collect(alloc)?,
-        )),
-        Err(refusal) => Ok(Err(Refused {
+        Ok(row) => {
+            let mut lengths = InlineVec::new(0);
+            for segment in row.as_slice() {
+                let _ = lengths.push(segment.length.0 as u64);
+            }
+            Ok(lengths)
+        }
+        Err(refusal) => Err(Refused {
             number: refusal.number(),
             part: refusal.part(),
-        })),
+        }),
     }
 }
 
-// The answers compared so far, and the memory for the next ones.
+// The answers compared so far.
 #[derive(Drop)]
 struct Comparison {
-    alloc: Global,
     tally: Tally,
 }
 
 impl Comparison {
-    fn split(&mut self, length: u32, sizes: &[Size], parts: &Parts) -> Result<()> {
-        let first = told(self.alloc, split(Mm(length), parts))?;
-        let second = second_split(self.alloc, length as u64, sizes)?;
-        self.tally.count(&first, &second)?;
-        Ok(())
+    fn split(&mut self, length: u32, sizes: &[Size], parts: &Parts) {
+        let first = told(split(Mm(length), parts));
+        let second = second_split(length as u64, sizes);
+        self.tally.count(&first, &second);
     }
 
-    fn repeat(&mut self, length: u32, tile: Tile) -> Result<()> {
-        let first = told(self.alloc, repeat(Mm(length), tile))?;
-        let second = second_repeat(self.alloc, length as u64, tile.length.0 as u64)?;
-        self.tally.count(&first, &second)?;
-        Ok(())
+    fn repeat(&mut self, length: u32, tile: Tile) {
+        let first = told(repeat(Mm(length), tile));
+        let second = second_repeat(length as u64, tile.length.0 as u64);
+        self.tally.count(&first, &second);
     }
 
     // A body in every length from 1 to 2,000.
     fn body(&mut self, sizes: &[Size]) -> Result<()> {
         let parts = parts(sizes)?;
         for length in 1..2_001 {
-            self.split(length, sizes, &parts)?;
+            self.split(length, sizes, &parts);
         }
         Ok(())
     }
@@ -72,15 +70,15 @@ impl Comparison {
             self.body(sizes)?;
         }
         for step in STEPS {
-            self.body(&rising(self.alloc, step)?)?;
+            self.body(rising(step).as_slice())?;
         }
         for k in 22..30 {
-            self.body(&mixed(self.alloc, k)?)?;
+            self.body(mixed(k).as_slice())?;
         }
         for tile in TILES {
             let tile = tile_of(tile)?;
             for length in 1..2_001 {
-                self.repeat(length, tile)?;
+                self.repeat(length, tile);
             }
         }
         Ok(())
@@ -90,12 +88,13 @@ impl Comparison {
     fn at_random(&mut self) -> Result<()> {
         let mut random = Random::new();
         for _ in 0..60_000u32 {
-            let sizes = random.next_body(self.alloc)?;
-            let parts = parts(&sizes)?;
+            let body = random.next_body();
+            let sizes = body.as_slice();
+            let parts = parts(sizes)?;
             let length = random.up_to(16_384);
-            self.split(length, &sizes, &parts)?;
+            self.split(length, sizes, &parts);
             let tile = tile_of(random.up_to(16_384))?;
-            self.repeat(random.up_to(16_384), tile)?;
+            self.repeat(random.up_to(16_384), tile);
         }
         Ok(())
     }
@@ -110,10 +109,8 @@ fn tile_of(length: u32) -> Result<Tile> {
 }
 
 fn main(rt: HostRuntime) -> Result<()> {
-    let alloc = rt.alloc();
     let mut comparison = Comparison {
-        alloc,
-        tally: Tally::new(alloc),
+        tally: Tally::new(),
     };
     comparison.tables()?;
     comparison.at_random()?;

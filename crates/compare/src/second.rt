@@ -1,7 +1,7 @@
 // A second apportioner: the spare millimetres are handed out one at a time, each to the part that waits with the largest remainder.
+use bounded::inline::InlineVec;
 use geometry::units::Weight;
 use rows::size::Size;
-use std::alloc::{AllocError, Global};
 use std::cmp::Reverse;
 
 // A refusal: its number and the part that it names.
@@ -12,7 +12,7 @@ pub struct Refused {
 }
 
 // The lengths of a row, or why there is none.
-pub type Told = Result<Vec<u64>, Refused>;
+pub type Told = Result<InlineVec<u64, 64>, Refused>;
 
 // A refusal that names no part.
 fn of_no_part(number: u32) -> Refused {
@@ -103,23 +103,36 @@ fn cut(places: &mut [Place], length: u64) -> Result<(), Refused> {
     }
 }
 
-pub fn second_split(alloc: Global, length: u64, sizes: &[Size]) -> Result<Told, AllocError> {
-    let mut places: Vec<Place> = sizes.iter().map(|size| Place::new(*size)).collect(alloc)?;
-    let answer = cut(&mut places, length);
-    let lengths = places.iter().map(|place| place.length).collect(alloc)?;
-    Ok(answer.map(|()| lengths))
+// The lengths of the places in order.
+fn lengths_of(places: &[Place]) -> InlineVec<u64, 64> {
+    let mut lengths = InlineVec::new(0);
+    for place in places {
+        let _ = lengths.push(place.length);
+    }
+    lengths
+}
+
+// A row has at most 64 places, so they lie in an array.
+pub fn second_split(length: u64, sizes: &[Size]) -> Told {
+    let mut places = [Place::new(Size::Float(Weight(1))); 64];
+    for (place, size) in places.iter_mut().zip(sizes) {
+        *place = Place::new(*size);
+    }
+    let places = &mut places[..sizes.len().min(64)];
+    cut(places, length)?;
+    Ok(lengths_of(places))
 }
 
 // The tile count by trial: the most tiles of which the last is at least half there.
-pub fn second_repeat(alloc: Global, length: u64, tile: u64) -> Result<Told, AllocError> {
+pub fn second_repeat(length: u64, tile: u64) -> Told {
     // n tiles fit if n - 1/2 of them are no longer than the scope
     let count = (2..66u64)
         .rev()
         .find(|n| (2 * *n - 1).saturating_mul(tile) <= length.saturating_mul(2))
         .unwrap_or(1);
     if count > 64 {
-        return Ok(Err(of_no_part(34)));
+        return Err(of_no_part(34));
     }
     let sizes = [Size::Float(Weight(1)); 64];
-    second_split(alloc, length, &sizes[..count as usize])
+    second_split(length, &sizes[..count as usize])
 }
