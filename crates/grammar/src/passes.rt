@@ -31,7 +31,7 @@ pub fn first_at<F: Fn(State, Token) -> bool>(wrong: F, file: FileKind, line: Lin
 }
 
 // Whether no form can go on at a token.
-fn is_misplaced(state: State, t: Token) -> bool
+pub fn is_misplaced(state: State, t: Token) -> bool
     ensures { result ≡ misplaced (expects state) (told t.entry) }
 {
     advance(state, &t).is_none()
@@ -67,7 +67,7 @@ pub fn wanted_name(state: State) -> Option<Naming>
 }
 
 // Whether a token is a number that is malformed or out of its range.
-fn is_bad_number(state: State, t: Token) -> bool
+pub fn is_bad_number(state: State, t: Token) -> bool
     ensures { result ≡ bad_number (expects state) (told t.entry) }
 {
     match (t, wanted_range(state)) {
@@ -77,7 +77,7 @@ fn is_bad_number(state: State, t: Token) -> bool
 }
 
 // Whether a token is a word that is no good name where a name is wanted.
-fn is_bad_name(state: State, t: Token) -> bool
+pub fn is_bad_name(state: State, t: Token) -> bool
     ensures { result ≡ bad_name (expects state) (told t.entry) }
 {
     match t {

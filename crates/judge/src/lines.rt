@@ -34,8 +34,8 @@ pub fn refuse(at: Option<usize>, fault: Fault, line: usize) -> Result<(), Placed
     }
 }
 
-// Of what is wrong with a line by itself the fault with the least number, at its leftmost place.
-pub fn first_fault(file: FileKind, line: Line) -> Result<(), Placed<Fault>>
+// The findings of a line by itself, one after the other by their numbers.
+fn find_fault(file: FileKind, line: Line) -> Result<(), Placed<Fault>>
     ensures value { result_err result ≡ judged file line.entry.number line.entry.bytes.now }
     ensures least { Least file line.entry.number line.entry.bytes.now (result_err result) }
 {
@@ -46,6 +46,16 @@ pub fn first_fault(file: FileKind, line: Line) -> Result<(), Placed<Fault>>
     refuse(find_misplaced(file, line), Fault::Misplaced, number)?;
     refuse(find_bad_number(file, line), Fault::BadNumber, number)?;
     refuse(find_bad_name(file, line), Fault::BadName, number)
+}
+
+// Of what is wrong with a line by itself the fault with the least number, at its leftmost place; readers of files begin here.
+// It passes just if the line is acceptable.
+pub fn first_fault(file: FileKind, line: Line) -> Result<(), Placed<Fault>>
+    ensures value { result_err result ≡ judged file line.entry.number line.entry.bytes.now }
+    ensures least { Least file line.entry.number line.entry.bytes.now (result_err result) }
+    ensures accepts { (result_err result ≡ None → Acceptable file line.entry.bytes.now) × (Acceptable file line.entry.bytes.now → result_err result ≡ None) }
+{
+    find_fault(file, line)
 }
 
 // The judgement of a line by itself: the fault with the least number at its leftmost place, or nothing just if the line is
