@@ -71,24 +71,38 @@ pub line_is : {a d : List ℕ} (k : LineKind) (n : ℕ) {ms ns : List ℕ} → a
 unfolding line_text
 line_is k n p q r = cc
 
--- a line is no longer than its start and end and twenty digits for each number allow
-length_ends : (k : LineKind) → length (start_of k) + length (end_of k) ≤ 17
-length_ends Group = omega arith
-length_ends Vertex = omega arith
-length_ends Face = omega arith
-length_ends Material = omega arith
-length_ends Sum = omega arith
-length_ends Done = omega arith
-length_ends Spent = omega arith
-length_ends Stop = omega arith
-length_ends RulesRefused = omega arith
-length_ends LotsRefused = omega arith
-length_ends Block = omega arith
+-- the most bytes of a line's start and end: 9 in a drawing and in the bill, 17 in a line of its own
+abbrev pub most_ends : LineKind → ℕ
+most_ends Group = 9
+most_ends Vertex = 9
+most_ends Face = 9
+most_ends Material = 9
+most_ends Sum = 9
+most_ends Done = 17
+most_ends Spent = 17
+most_ends Stop = 17
+most_ends RulesRefused = 17
+most_ends LotsRefused = 17
+most_ends Block = 17
 
+pub length_ends : (k : LineKind) → (length (start_of k) + length (end_of k) ≤ most_ends k) × (most_ends k ≤ 17)
+length_ends Group = (omega arith, omega arith)
+length_ends Vertex = (omega arith, omega arith)
+length_ends Face = (omega arith, omega arith)
+length_ends Material = (omega arith, omega arith)
+length_ends Sum = (omega arith, omega arith)
+length_ends Done = (omega arith, omega arith)
+length_ends Spent = (omega arith, omega arith)
+length_ends Stop = (omega arith, omega arith)
+length_ends RulesRefused = (omega arith, omega arith)
+length_ends LotsRefused = (omega arith, omega arith)
+length_ends Block = (omega arith, omega arith)
+
+-- a line is no longer than its start and end and twenty digits for each number allow
 length_spaced_few : (ns : List ℕ) → ((k : ℕ) → get_or ns k 0 < 2 ^ 64) → length (spaced ns) ≤ 21 * length ns
 length_spaced_few [] h = omega arith
 length_spaced_few (n ∷ ns) h =
     omega (arith, length-append (32 ∷ decimal n) (spaced ns), length_few n (h 0), length_spaced_few ns (λ k. h (suc k)))
 
 pub line_few : (k : LineKind) (n : ℕ) (ns : List ℕ) → n < 2 ^ 64 → ((k : ℕ) → get_or ns k 0 < 2 ^ 64) → length (line_text k n ns) ≤ 37 + 21 * length ns
-line_few k n ns h hs = omega (arith, length_line k n ns, length_ends k, length_few n h, length_spaced_few ns hs)
+line_few k n ns h hs = omega (arith, length_line k n ns, (length_ends k).0, (length_ends k).1, length_few n h, length_spaced_few ns hs)
